@@ -1,0 +1,111 @@
+-- Values as bytes at an offset, and back: what is written is read back, and what is read from well-formed bytes is written as the same bytes.
+--     Codec                 a value's width and bytes, and the value at an offset
+--     pair, named           two values one after the other; the same bytes under another type
+--     rows-in, rows-forth   the two ways for values in a row
+use mathlib.Core.Path.{_≡_, refl, sym, ap, ap₂, _∙_}
+use mathlib.Core.List.{List, [], _∷_, _++_, append-assoc}
+use Prim.Native.Nat.{ℕ, zero, suc, _+_, _*_, _≤_, _<_}
+use native.Mathlib.Omega.{arith}
+use lib.ListN.{length, getD, take, drop, length-append}
+use lib.Seq.{getD-append-seam, take-add, drop-drop, drop-cons}
+use Rattle.lists.specs.All.{All}
+use Rattle.lists.specs.Rows.{rows, laidRows, rows-back}
+
+pub record Codec (A : Type 0) : Type 1 where
+  pub width : ℕ
+  -- the values that these bytes can hold
+  pub Fits : A → Type 0
+  pub bytes : A → List ℕ
+  pub value : List ℕ → ℕ → A
+  -- the bytes at an offset are those of a value
+  pub Formed : List ℕ → ℕ → Type 0
+  pub size : (a : A) → length (bytes a) ≡ width
+  pub back : (pre : List ℕ) (a : A) (post : List ℕ) → Fits a → value (pre ++ (bytes a ++ post)) (length pre) ≡ a
+  pub forth : (b : List ℕ) (o : ℕ) → o + width ≤ length b → Formed b o → bytes (value b o) ≡ take width (drop o b)
+
+pub byte-forth : (b : List ℕ) (o : ℕ) → o + 1 ≤ length b → getD b o 0 ∷ [] ≡ take 1 (drop o b)
+byte-forth b o h = rw (drop-cons b o 0 (omega arith)) refl
+
+abbrev pub byte : Codec ℕ
+byte = record {
+  width = 1;
+  Fits = λ (n : ℕ). n < 256;
+  bytes = λ (n : ℕ). n ∷ [];
+  value = λ (b : List ℕ) (o : ℕ). getD b o 0;
+  Formed = λ (b : List ℕ) (o : ℕ). Unit {0};
+  size = λ n. refl;
+  back = λ pre n post h. getD-append-seam pre n post 0;
+  forth = λ b o h w. byte-forth b o h;
+}
+
+module _ {A B : Type 0} (c : Codec A) (d : Codec B) where
+  pub pair-size : (x : A × B) → length (c .bytes (x .0) ++ d .bytes (x .1)) ≡ c .width + d .width
+  pair-size x = length-append (c .bytes (x .0)) (d .bytes (x .1)) ∙ ap₂ _+_ (c .size (x .0)) (d .size (x .1))
+
+  pub pair-back : (pre : List ℕ) (x : A × B) (post : List ℕ) → c .Fits (x .0) × d .Fits (x .1)
+      → _≡_ {A = A × B} (c .value (pre ++ (c .bytes (x .0) ++ d .bytes (x .1) ++ post)) (length pre), d .value (pre ++ (c .bytes (x .0) ++ d .bytes (x .1) ++ post)) (length pre + c .width)) x
+  pair-back pre x post h = λ i. (left i, right i)
+    where
+      left : c .value (pre ++ (c .bytes (x .0) ++ d .bytes (x .1) ++ post)) (length pre) ≡ x .0
+      left = rw (append-assoc (c .bytes (x .0)) (d .bytes (x .1)) post) (c .back pre (x .0) (d .bytes (x .1) ++ post) (h .0))
+
+      right : d .value (pre ++ (c .bytes (x .0) ++ d .bytes (x .1) ++ post)) (length pre + c .width) ≡ x .1
+      right = ap₂ (d .value) turn (sym (length-append pre (c .bytes (x .0)) ∙ ap (_+_ (length pre)) (c .size (x .0)))) ∙ d .back (pre ++ c .bytes (x .0)) (x .1) post (h .1)
+        where
+          turn : pre ++ (c .bytes (x .0) ++ d .bytes (x .1) ++ post) ≡ pre ++ c .bytes (x .0) ++ (d .bytes (x .1) ++ post)
+          turn = simp append-assoc
+
+  pub pair-forth : (b : List ℕ) (o : ℕ) → o + (c .width + d .width) ≤ length b → c .Formed b o × d .Formed b (o + c .width)
+      → c .bytes (c .value b o) ++ d .bytes (d .value b (o + c .width)) ≡ take (c .width + d .width) (drop o b)
+  pair-forth b o h w =
+      ap₂ _++_ (c .forth b o (omega arith) (w .0)) (d .forth b (o + c .width) (omega arith) (w .1) ∙ ap (take (d .width)) (sym (drop-drop (c .width) o b)))
+      ∙ sym (take-add (c .width) (d .width) (drop o b))
+
+  -- one value, and another behind it
+  abbrev pub pair : Codec (A × B)
+  pair = record {
+    width = c .width + d .width;
+    Fits = λ (x : A × B). c .Fits (x .0) × d .Fits (x .1);
+    bytes = λ (x : A × B). c .bytes (x .0) ++ d .bytes (x .1);
+    value = λ (b : List ℕ) (o : ℕ). (c .value b o, d .value b (o + c .width));
+    Formed = λ (b : List ℕ) (o : ℕ). c .Formed b o × d .Formed b (o + c .width);
+    size = pair-size;
+    back = pair-back;
+    forth = pair-forth;
+  }
+
+-- the same bytes for another type: f names what was read, g takes it apart, and the bytes that are formed are those on which g undoes f
+module _ {A B : Type 0} (c : Codec A) (f : A → B) (g : B → A) (Fits : B → Type 0) (Formed : List ℕ → ℕ → Type 0)
+    (fits : (y : B) → Fits y → c .Fits (g y)) (there : (y : B) → Fits y → f (g y) ≡ y)
+    (formed : (b : List ℕ) (o : ℕ) → Formed b o → c .Formed b o) (here : (b : List ℕ) (o : ℕ) → Formed b o → g (f (c .value b o)) ≡ c .value b o) where
+  abbrev pub named : Codec B
+  named = record {
+    width = c .width;
+    Fits = Fits;
+    bytes = λ (y : B). c .bytes (g y);
+    value = λ (b : List ℕ) (o : ℕ). f (c .value b o);
+    Formed = Formed;
+    size = λ y. c .size (g y);
+    back = λ pre y post h. ap f (c .back pre (g y) post (fits y h)) ∙ there y h;
+    forth = λ b o h w. ap (c .bytes) (here b o w) ∙ c .forth b o h (formed b o w);
+  }
+
+module _ {A : Type 0} (c : Codec A) where
+  -- values that stand in a row somewhere in a list, at an offset
+  pub rows-in : (xs : List A) (pre post b : List ℕ) (offset : ℕ) → b ≡ pre ++ (laidRows (c .bytes) xs ++ post) → length pre ≡ offset → All (c .Fits) xs
+      → rows (c .value b) (c .width) offset (length xs) ≡ xs
+  rows-in xs pre post b offset e o h =
+      ap₂ (λ (l : List ℕ) (k : ℕ). rows (c .value l) (c .width) k (length xs)) e (sym o)
+      ∙ rows-back (c .width) (c .bytes) (c .size) (c .Fits) (c .value) (c .back) pre xs post h
+
+  -- n rows from an offset on are formed
+  abbrev pub RowsFormed : List ℕ → ℕ → ℕ → Type 0
+  RowsFormed b o zero = Unit {0}
+  RowsFormed b o (suc n) = c .Formed b o × RowsFormed b (o + c .width) n
+
+  pub rows-forth : (b : List ℕ) (o n : ℕ) → o + n * c .width ≤ length b → RowsFormed b o n → laidRows (c .bytes) (rows (c .value b) (c .width) o n) ≡ take (n * c .width) (drop o b)
+  rows-forth b o zero h w = let p : 0 ≡ 0 * c .width = omega arith in ap (λ (k : ℕ). take k (drop o b)) p
+  rows-forth b o (suc n) h w =
+      ap₂ _++_ (c .forth b o (omega arith) (w .0)) (rows-forth b (o + c .width) n (omega arith) (w .1) ∙ ap (take (n * c .width)) (sym (drop-drop (c .width) o b)))
+      ∙ sym (take-add (c .width) (n * c .width) (drop o b))
+      ∙ (let p : c .width + n * c .width ≡ suc n * c .width = omega arith in ap (λ (k : ℕ). take k (drop o b)) p)
