@@ -1,9 +1,10 @@
 -- The elements that meet a test, and the images that a partial function gives, in order.
 -- The library's `filter` goes by a decision of a proposition; this one goes by a test. `filterMap` is the library's.
 --     filter        its laws, and what any and All say of it
+--     map           what All says of it
 --     filterMap     its laws, and what any and All say of it (twice over: filterMap-filterMap of mathlib.Core.List)
 use mathlib.Core.Path.{_≡_, refl, sym, ap, ap₂, _∙_, subst}
-use mathlib.Core.Bool.{Bool, true, false, cond, _&&_, _||_}
+use mathlib.Core.Bool.{Bool, true, false, cond, _&&_, _||_, false≢true}
 use mathlib.Core.Option.{Option, none, some, Option·elim}
 use mathlib.Core.List.{List, [], _∷_, filterMap, map}
 use Prim.Native.Nat.{ℕ, suc, _≤_}
@@ -64,6 +65,16 @@ module _ {A : Type 0} where
       go true f r = (f refl, r)
       go false f r = r
 
+  -- and back
+  pub filtered-all : (P : A → Type 0) (p : A → Bool) (xs : List A) → All P (filter p xs) → All (λ (x : A). p x ≡ true → P x) xs
+  filtered-all P p [] h = tt
+  filtered-all P p (x ∷ xs) h = go (p x) h (filtered-all P p xs)
+    where
+      go : (t : Bool) → All P (cond t (x ∷ filter p xs) (filter p xs)) → (All P (filter p xs) → All (λ (y : A). p y ≡ true → P y) xs)
+          → (t ≡ true → P x) × All (λ (y : A). p y ≡ true → P y) xs
+      go true k r = (λ e. k .0, r (k .1))
+      go false k r = (λ e. absurd (false≢true e), r k)
+
 -- whether there is a value, and it meets a test
 abbrev pub holds : {B : Type 0} → (B → Bool) → Option B → Bool
 holds q none = false
@@ -73,6 +84,26 @@ module _ {A B : Type 0} where
   pub map-congr : (f g : A → B) (xs : List A) → All (λ (x : A). f x ≡ g x) xs → map f xs ≡ map g xs
   map-congr f g [] h = refl
   map-congr f g (x ∷ xs) h = ap₂ _∷_ (h .0) (map-congr f g xs (h .1))
+
+  pub all-mapped : (P : B → Type 0) (f : A → B) (xs : List A) → All (λ (x : A). P (f x)) xs → All P (map f xs)
+  all-mapped P f [] h = tt
+  all-mapped P f (x ∷ xs) h = (h .0, all-mapped P f xs (h .1))
+
+  pub mapped-all : (P : B → Type 0) (f : A → B) (xs : List A) → All P (map f xs) → All (λ (x : A). P (f x)) xs
+  mapped-all P f [] h = tt
+  mapped-all P f (x ∷ xs) h = (h .0, mapped-all P f xs (h .1))
+
+  -- the images of the elements that meet a test
+  pub map-filter : (f : A → B) (p : A → Bool) (xs : List A) → map f (filter p xs) ≡ filterMap (λ (x : A). cond (p x) (some (f x)) none) xs
+  unfolding filterMap
+  map-filter f p [] = refl
+  map-filter f p (x ∷ xs) = go (p x) (map-filter f p xs)
+    where
+      go : (t : Bool) → map f (filter p xs) ≡ filterMap (λ (y : A). cond (p y) (some (f y)) none) xs
+          → map f (cond t (x ∷ filter p xs) (filter p xs))
+          ≡ Option·elim (cond t (some (f x)) none) (filterMap (λ (y : A). cond (p y) (some (f y)) none) xs) (λ b. b ∷ filterMap (λ (y : A). cond (p y) (some (f y)) none) xs)
+      go true e = ap (_∷_ (f x)) e
+      go false e = e
 
   pub filterMap-congr : (f g : A → Option B) (xs : List A) → All (λ (x : A). f x ≡ g x) xs → filterMap f xs ≡ filterMap g xs
   unfolding filterMap

@@ -1,0 +1,3 @@
+-- Laws about the definitions of specs/, in the order in which they rest on each other.
+pub mod Boxes
+pub mod Pieces

@@ -1,0 +1,2 @@
+-- The theorems about networks, one a file, and the laws that they rest on.
+pub mod Laws
