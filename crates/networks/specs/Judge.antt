@@ -1,14 +1,16 @@
 -- Judging (document 01): the first finding by rising id.
 --     Finding, fault      what is wrong at one own box: 31 before 32 before 33
 --     Verdict, judge      the answer, with the number of own boxes judged
---     judged              the count of every answer
+--     up-to, judged       the judged count: of a named box, and of every answer
 use mathlib.Core.Path.{_≡_}
 use mathlib.Core.Bool.{Bool, true, false, not}
 use mathlib.Core.Option.{Option, none, some, Option·getD}
 use mathlib.Core.List.{List, [], _∷_}
 use Prim.Native.Nat.{ℕ, suc}
+use lib.Dec.{leb}
 use lib.ListN.{length}
 use Rattle.lists.specs.Test.{firstOf}
+use Rattle.lists.specs.Filter.{filter}
 use Rattle.networks.specs.Algebra.{Algebra}
 use Rattle.networks.specs.Network.{Own, Network, own-boxes}
 use Rattle.networks.specs.Sheets.{RouteList, listed}
@@ -67,6 +69,10 @@ module _ (𝓐 : Algebra) where
   -- the list passes in the network, with all own boxes judged
   abbrev pub Passes : Network Route Policy Demand → RouteList Route → Type 0
   Passes N L = judge N L ≡ given (pass (length (own-boxes N)))
+
+-- The own boxes with an id up to that of a named box: what its finding's count is to be.
+abbrev pub up-to : {R P D : Type 0} → Network R P D → ℕ → ℕ
+up-to {R} {P} {D} N i = length (filter (λ (b : Own R D). leb (b .id) i) (own-boxes N))
 
 -- The judged count of an answer, 0 where the call was refused.
 abbrev pub judged : {R : Type 0} → Answer (Verdict R) → ℕ

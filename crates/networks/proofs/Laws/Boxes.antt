@@ -1,7 +1,8 @@
 -- The boxes of a network by kind and by id.
 --     found, there             for either kind: what the box with an id knows, and each box is the one with its id
 --     own-found .. input-there     the same for own boxes and for inputs
---     owned                    from `owns` to the own box
+--     own-rise                 own boxes stand by rising id
+--     owned, own-fact          from `owns` to the own box, and to what every own box has
 use mathlib.Core.Path.{_≡_, refl, sym, ap, _∙_, subst}
 use mathlib.Core.Bool.{Bool, true, false, false≢true}
 use mathlib.Core.Option.{Option, none, some}
@@ -9,7 +10,7 @@ use mathlib.Core.List.{List, filterMap}
 use Prim.Native.Nat.{ℕ}
 use Rattle.lists.specs.All.{All, all-map}
 use Rattle.lists.specs.Filter.{some-inj, none-some, all-filterMap, filterMap-all}
-use Rattle.lists.specs.Sorted.{Rises, find-key, find-all, find-self}
+use Rattle.lists.specs.Sorted.{Rises, rises-filterMap, find-key, find-all, find-self}
 use Rattle.networks.specs.Network.{Own, Input, Box, own, input, Network, box-id, as-own, as-input, is-box, is-own, own-boxes, inputs, box, has-box, owns}
 
 -- one kind of box, and the box that each of the kind is
@@ -41,6 +42,9 @@ module _ {R P D : Type 0} (N : Network R P D) where
 
   pub input-there : Rises box-id 0 (N .boxes) → All (λ (a : Input R). box N (a .id) ≡ some (input a)) (inputs N)
   input-there = there N as-input input (λ a. refl) input-only
+
+  pub own-rise : Rises box-id 0 (N .boxes) → Rises (λ (b : Own R D). b .id) 0 (own-boxes N)
+  own-rise = rises-filterMap box-id (λ (b : Own R D). b .id) as-own (λ v b e. sym (ap box-id (own-only v b e))) 0 (N .boxes)
 
   pub owned : (i : ℕ) → owns N i ≡ true → (b : Own R D) × (box N i ≡ some (own b)) × (b .id ≡ i)
   owned i t = go (box N i) refl t
