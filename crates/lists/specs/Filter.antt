@@ -7,9 +7,10 @@ use mathlib.Core.Path.{_≡_, refl, sym, ap, ap₂, _∙_, subst}
 use mathlib.Core.Bool.{Bool, true, false, cond, _&&_, _||_, false≢true}
 use mathlib.Core.Option.{Option, none, some, Option·elim}
 use mathlib.Core.List.{List, [], _∷_, filterMap, map}
-use Prim.Native.Nat.{ℕ, suc, _≤_}
+use Prim.Native.Nat.{ℕ, suc, _≤_, _<_}
 use native.Mathlib.Omega.{arith}
 use lib.ListN.{length}
+use Rattle.lists.specs.Test.{or-f-l, or-f-r}
 use Rattle.lists.specs.All.{All, any}
 
 pub some-inj : {A : Type 0} {x y : A} → some x ≡ some y → x ≡ y
@@ -47,6 +48,18 @@ module _ {A : Type 0} where
       go : (t : Bool) → length (filter p xs) ≤ length xs → length (cond t (x ∷ filter p xs) (filter p xs)) ≤ suc (length xs)
       go true h = omega arith
       go false h = omega arith
+
+  pub filter-some : (p : A → Bool) (xs : List A) → any p xs ≡ true → 0 < length (filter p xs)
+  filter-some p [] e = absurd (false≢true e)
+  filter-some p (x ∷ xs) e = go (p x) e (filter-some p xs)
+    where
+      go : (t : Bool) → t || any p xs ≡ true → (any p xs ≡ true → 0 < length (filter p xs)) → 0 < length (cond t (x ∷ filter p xs) (filter p xs))
+      go true h r = omega arith
+      go false h r = r h
+
+  pub filter-none : (p : A → Bool) (xs : List A) → any p xs ≡ false → filter p xs ≡ []
+  filter-none p [] e = refl
+  filter-none p (x ∷ xs) e = rw (or-f-l (p x) (any p xs) e) (filter-none p xs (or-f-r (p x) (any p xs) e))
 
   pub any-filter : (p q : A → Bool) (xs : List A) → any q (filter p xs) ≡ any (λ (x : A). p x && q x) xs
   any-filter p q [] = refl

@@ -3,26 +3,30 @@
 --     fault-none, none-fault             no fault at a box is the three facts about it
 --     verdict-pass, pass-verdict         a pass is no fault anywhere, with every box counted
 --     verdict-found                      a finding is the first fault, with the boxes up to it counted
+--     judge-given, passes-solved         the same of the judge's answer
 use mathlib.Core.Path.{_≡_, refl, sym, ap, ap₂, _∙_, subst}
 use mathlib.Core.Bool.{Bool, true, false, cond, not}
 use mathlib.Core.Option.{Option, none, some, Option·getD}
+use mathlib.Core.Logic.{_↔_}
 use mathlib.Core.List.{List, [], _∷_}
 use Prim.Native.Nat.{ℕ, suc, _+_, _≤_, _<_}
-use native.Mathlib.Nat.{add-zero}
+use native.Mathlib.Nat.{add-zero, zero-add}
 use native.Mathlib.Omega.{arith}
 use lib.Dec.{leb}
 use lib.ListN.{length}
 use borrow.Author.Tests.{not-false, le-leb}
 use Rattle.lists.specs.Test.{cond-off}
-use Rattle.lists.specs.All.{All, all-map}
+use Rattle.lists.specs.All.{All, all-map, all-both}
 use Rattle.lists.specs.Filter.{some-inj, none-some, filter}
 use Rattle.lists.specs.Sorted.{Rises, filter-low}
 use Rattle.networks.specs.Algebra.{Algebra}
 use Rattle.networks.specs.Network.{Own, Input, Box, own, input, Network, box-id, own-boxes, inputs, box}
 use Rattle.networks.specs.Sheets.{RouteList, listed}
-use Rattle.networks.specs.Solution.{route-at, neighbour, due, mapping}
-use Rattle.networks.specs.Judge.{Finding, Verdict, pass, found, held, breaks, first-finding, fault, stop, verdict-from}
+use Rattle.networks.specs.Answer.{given, refuse, Entered, unentered}
+use Rattle.networks.specs.Solution.{route-at, neighbour, due, mapping, Solution, Demands}
+use Rattle.networks.specs.Judge.{Finding, Verdict, pass, found, held, breaks, first-finding, fault, stop, verdict-from, judge, Passes}
 use Rattle.networks.proofs.Laws.Boxes.{own-there, input-there}
+use Rattle.networks.proofs.Laws.Cutting.{entered-none, none-entered, given-same, refuse-given}
 
 module _ (𝓐 : Algebra) where
   open Algebra 𝓐 using (Route, Policy, Demand, no-route, same, meets, same-true, same-self)
@@ -135,3 +139,39 @@ module _ (𝓐 : Algebra) where
 
             route-is : f .route ≡ r
             route-is = cc
+
+    -- the answer
+    pub judge-given : (v : Verdict Route) → judge 𝓐 N L ≡ given v → Entered N (listed L) × (verdict-from 𝓐 N L 0 (own-boxes N) ≡ v)
+    unfolding judge
+    judge-given v e = let s = refuse-given 17 (unentered N (listed L)) (given (verdict-from 𝓐 N L 0 (own-boxes N))) v e in (none-entered N (listed L) (s .0), given-same (s .1))
+
+    module _ (rise : Rises box-id 0 (N .boxes)) where
+      pub own-held : All (λ (b : Own Route Demand). mapping 𝓐 N L (b .id) ≡ held 𝓐 L (b .id)) (own-boxes N)
+      own-held = all-map (own-boxes N) (λ b e. mapping-own (b .id) b e) (own-there N rise)
+
+      solved : All (λ (b : Own Route Demand). fault 𝓐 N L b ≡ none) (own-boxes N) → Solution 𝓐 N (mapping 𝓐 N L) × Demands 𝓐 N (mapping 𝓐 N L)
+      solved h = (
+        record {
+          equation-6 = all-map (own-boxes N) (λ b f. f .0 ∙ (fault-none b (f .1)) .0) facts;
+          equation-7 = all-map (inputs N) (λ a e. mapping-input (a .id) a e) (input-there N rise);
+          equation-8 = all-map (own-boxes N) (λ b f q e. f .0 ∙ (fault-none b (f .1)) .1 q e) facts;
+        },
+        all-map (own-boxes N) (λ b f. rw (f .0) ((fault-none b (f .1)) .2)) facts,
+      )
+        where
+          facts : All (λ (b : Own Route Demand). (mapping 𝓐 N L (b .id) ≡ held 𝓐 L (b .id)) × (fault 𝓐 N L b ≡ none)) (own-boxes N)
+          facts = all-both _ _ (own-boxes N) own-held h
+
+      faultless : Solution 𝓐 N (mapping 𝓐 N L) → Demands 𝓐 N (mapping 𝓐 N L) → All (λ (b : Own Route Demand). fault 𝓐 N L b ≡ none) (own-boxes N)
+      faultless h d = all-map (own-boxes N) (λ b f. none-fault b (sym (f .0) ∙ f .1 .0) (λ q e. sym (f .0) ∙ f .1 .1 .0 q e) (rw (f .0) at (f .1 .1 .1)))
+          (all-both _ _ (own-boxes N) own-held (all-both _ _ (own-boxes N) (h .equation-6) (all-both _ _ (own-boxes N) (h .equation-8) d)))
+
+      pub passes-solved : Passes 𝓐 N L ↔ (Entered N (listed L) × Solution 𝓐 N (mapping 𝓐 N L) × Demands 𝓐 N (mapping 𝓐 N L))
+      unfolding judge
+      passes-solved = (
+        λ e.
+            let g = judge-given (pass (length (own-boxes N))) e in
+            let s = solved ((pass-verdict 0 (length (own-boxes N)) (own-boxes N) (g .1)) .0) in
+            (g .0, s .0, s .1),
+        λ h. rw (entered-none N (listed L) (h .0)) (ap given (verdict-pass 0 (own-boxes N) (faultless (h .1) (h .2)) ∙ ap pass (zero-add (length (own-boxes N))))),
+      )
