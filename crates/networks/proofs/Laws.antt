@@ -5,3 +5,4 @@ pub mod Formed
 pub mod Cutting
 pub mod Solutions
 pub mod Judging
+pub mod Mapping

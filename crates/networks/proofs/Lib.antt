@@ -2,4 +2,5 @@
 pub mod Passing
 pub mod SameAnswer
 pub mod FragmentSound
+pub mod FragmentsAndWhole
 pub mod Laws

@@ -40,7 +40,7 @@ anywhere N S Q h k =
     own-kept N S (λ (n : ℕ). eqb n k) (Q k) (all-map (own-boxes N) (λ b f e. subst (λ (n : ℕ). Q n (promising N S b)) (eqb-true (number S (b .id)) k e) f) h)
 
 -- a promise in a fragment: the note where a cut wire leaves, and the network's own
-promised-note : {R : Type 0} (x : R) (p n : Option R) (left : Bool) → left ≡ true → is-some n ≡ true → ((q : R) → p ≡ some q → n ≡ some q)
+pub promised-note : {R : Type 0} (x : R) (p n : Option R) (left : Bool) → left ≡ true → is-some n ≡ true → ((q : R) → p ≡ some q → n ≡ some q)
     → ((q : R) → promised p left n ≡ some q → x ≡ q) → some x ≡ n
 promised-note x none none true l s f g = absurd (false≢true s)
 promised-note x none (some n) true l s f g = ap some (g n refl)
