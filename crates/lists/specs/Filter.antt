@@ -1,7 +1,7 @@
 -- The elements that meet a test, and the images that a partial function gives, in order.
 -- The library's `filter` goes by a decision of a proposition; this one goes by a test. `filterMap` is the library's.
 --     filter        its laws, and what any and All say of it
---     map           what All says of it
+--     map           what any and All say of it
 --     filterMap     its laws, and what any and All say of it (twice over: filterMap-filterMap of mathlib.Core.List)
 use mathlib.Core.Path.{_≡_, refl, sym, ap, ap₂, _∙_, subst}
 use mathlib.Core.Bool.{Bool, true, false, cond, _&&_, _||_, false≢true}
@@ -105,6 +105,10 @@ module _ {A B : Type 0} where
   pub mapped-all : (P : B → Type 0) (f : A → B) (xs : List A) → All P (map f xs) → All (λ (x : A). P (f x)) xs
   mapped-all P f [] h = tt
   mapped-all P f (x ∷ xs) h = (h .0, mapped-all P f xs (h .1))
+
+  pub any-mapped : (p : B → Bool) (f : A → B) (xs : List A) → any p (map f xs) ≡ any (λ (x : A). p (f x)) xs
+  any-mapped p f [] = refl
+  any-mapped p f (x ∷ xs) = ap (_||_ (p (f x))) (any-mapped p f xs)
 
   -- the images of the elements that meet a test
   pub map-filter : (f : A → B) (p : A → Bool) (xs : List A) → map f (filter p xs) ≡ filterMap (λ (x : A). cond (p x) (some (f x)) none) xs

@@ -6,3 +6,4 @@ pub mod Cutting
 pub mod Solutions
 pub mod Judging
 pub mod Mapping
+pub mod Recut

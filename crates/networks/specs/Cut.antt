@@ -24,10 +24,14 @@ promised (some q) left note = some q
 promised none true note = note
 promised none false note = none
 
+-- an own box in a fragment that it feeds and is not in: an input that is assumed to hold the note
+abbrev pub assuming : {R D : Type 0} → Own R D → R → Box R D
+assuming b n = input (record { id = b .id; assumed = n })
+
 module _ {R P D : Type 0} (N : Network R P D) (S : Sheet R) where
   -- A cut wire joins two own boxes with different numbers.
   abbrev pub is-cut : Wire → Bool
-  is-cut w = owns N (w .from) && (owns N (w .to) && not (eqb (number S (w .from)) (number S (w .to))))
+  is-cut w = owns N (w .to) && (owns N (w .from) && not (eqb (number S (w .to)) (number S (w .from))))
 
   -- a cut wire leaves the box
   unfoldable pub leaves : ℕ → Bool
@@ -45,10 +49,6 @@ module _ {R P D : Type 0} (N : Network R P D) (S : Sheet R) where
     promise = promised (b .promise) (leaves (b .id)) (note S (b .id));
     demand = b .demand;
   }
-
-  -- an own box in a fragment that it is not in, but feeds
-  abbrev pub assuming : Own R D → R → Box R D
-  assuming b n = input (record { id = b .id; assumed = n })
 
   -- What the fragment with the numbers κ keeps of a box: its own boxes, and as inputs the boxes that feed it.
   abbrev pub piece : (ℕ → Bool) → Box R D → Option (Box R D)

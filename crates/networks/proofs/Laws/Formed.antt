@@ -35,15 +35,15 @@ sound-formed B N sound = record { rise = sound .boxes-rise; joined = sound .wire
 
 module _ {R P D : Type 0} (N : Network R P D) (S : Sheet R) (formed : Formed N) where
   -- a wire out of an own box is cut where the numbers of its ends differ
-  pub leaves-own : (i : ℕ) → owns N i ≡ true → leaves N S i ≡ any (λ (w : Wire). eqb (w .from) i && not (eqb (number S i) (number S (w .to)))) (N .wires)
+  pub leaves-own : (i : ℕ) → owns N i ≡ true → leaves N S i ≡ any (λ (w : Wire). eqb (w .from) i && not (eqb (number S (w .to)) (number S i))) (N .wires)
   unfolding leaves
   leaves-own i t = any-congr _ _ (N .wires) (all-map (N .wires) at (formed .joined))
     where
       at : (w : Wire) → Joined N w
-          → eqb (w .from) i && (owns N (w .from) && (owns N (w .to) && not (eqb (number S (w .from)) (number S (w .to))))) ≡ eqb (w .from) i && not (eqb (number S i) (number S (w .to)))
+          → eqb (w .from) i && (owns N (w .to) && (owns N (w .from) && not (eqb (number S (w .to)) (number S (w .from))))) ≡ eqb (w .from) i && not (eqb (number S (w .to)) (number S i))
       at w h = rw (h .to-own) (go (eqb (w .from) i) refl)
         where
-          go : (s : Bool) → eqb (w .from) i ≡ s → s && (owns N (w .from) && not (eqb (number S (w .from)) (number S (w .to)))) ≡ s && not (eqb (number S i) (number S (w .to)))
+          go : (s : Bool) → eqb (w .from) i ≡ s → s && (owns N (w .from) && not (eqb (number S (w .to)) (number S (w .from)))) ≡ s && not (eqb (number S (w .to)) (number S i))
           go false q = refl
           go true q = rw (eqb-true (w .from) i q, t) refl
 
@@ -52,16 +52,16 @@ module _ {R P D : Type 0} (N : Network R P D) (S : Sheet R) (formed : Formed N) 
   unfolding feeds
   feeds-leaves κ i t out f = rw (leaves-own i t) (any-mono _ _ (N .wires) (all-map (N .wires) at (formed .joined)) f)
     where
-      at : (w : Wire) → Joined N w → eqb (w .from) i && κ (number S (w .to)) ≡ true → eqb (w .from) i && not (eqb (number S i) (number S (w .to))) ≡ true
+      at : (w : Wire) → Joined N w → eqb (w .from) i && κ (number S (w .to)) ≡ true → eqb (w .from) i && not (eqb (number S (w .to)) (number S i)) ≡ true
       at w h e = and-i _ _ (and-l (eqb (w .from) i) (κ (number S (w .to))) e)
-          (ap not (ne-eqb (number S i) (number S (w .to)) (λ q. true≢false (sym (and-r (eqb (w .from) i) (κ (number S (w .to))) e) ∙ ap κ (sym q) ∙ out))))
+          (ap not (ne-eqb (number S (w .to)) (number S i) (λ q. true≢false (sym (and-r (eqb (w .from) i) (κ (number S (w .to))) e) ∙ ap κ q ∙ out))))
 
   module _ (κ : ℕ → Bool) where
     -- a fragment owns the own boxes with its numbers
     is-own-piece : (b : Own R D) → is-own (piece N S κ (own b)) ≡ κ (number S (b .id))
     is-own-piece b = go (κ (number S (b .id))) (feeds N S κ (b .id)) (note S (b .id))
       where
-        go : (s t : Bool) (n : Option R) → is-own (cond s (some (own (promising N S b))) (cond t (Option·map (assuming N S b) n) none)) ≡ s
+        go : (s t : Bool) (n : Option R) → is-own (cond s (some (own (promising N S b))) (cond t (Option·map (assuming b) n) none)) ≡ s
         go true t n = refl
         go false true (some n) = refl
         go false true none = refl
@@ -79,7 +79,7 @@ module _ {R P D : Type 0} (N : Network R P D) (S : Sheet R) (formed : Formed N) 
       is-box-piece (input a) h f = rw f refl
       is-box-piece (own b) h f = rw f (go (κ (number S (b .id))) (is-some-true (note S (b .id)) (h b refl)))
         where
-          go : (s : Bool) → (n : R) × (note S (b .id) ≡ some n) → is-box (cond s (some (own (promising N S b))) (Option·map (assuming N S b) (note S (b .id)))) ≡ true
+          go : (s : Bool) → (n : R) × (note S (b .id) ≡ some n) → is-box (cond s (some (own (promising N S b))) (Option·map (assuming b) (note S (b .id)))) ≡ true
           go true n = refl
           go false n = rw (n .1) refl
 

@@ -42,8 +42,8 @@ module _ (𝓐 : Algebra) (N : Network (𝓐 .Route) (𝓐 .Policy) (𝓐 .Deman
         noted = own-found N (λ (c : Own Route Demand). leaves N S (c .id) ≡ true → listed L (c .id) ≡ note S (c .id)) i b agrees q
 
         go : (s : Bool) → among (number S (b .id)) ≡ s → (t : Bool) → feeds N S among (b .id) ≡ t → (n : Option Route) → note S (b .id) ≡ n
-            → is-box (cond s (some (own (promising N S b))) (cond t (Option·map (assuming N S b) n) none)) ≡ true
-            → route-at L (cond s (some (own (promising N S b))) (cond t (Option·map (assuming N S b) n) none)) ≡ listed L (b .id)
+            → is-box (cond s (some (own (promising N S b))) (cond t (Option·map (assuming b) n) none)) ≡ true
+            → route-at L (cond s (some (own (promising N S b))) (cond t (Option·map (assuming b) n) none)) ≡ listed L (b .id)
         go true c t f n m e = refl
         go false c true f none m e = absurd (false≢true e)
         go false c true f (some n) m e = sym (noted (feeds-leaves N S formed among (b .id) owned c f) ∙ m)

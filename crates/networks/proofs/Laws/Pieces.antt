@@ -24,7 +24,7 @@ module _ {R P D : Type 0} (N : Network R P D) (S : Sheet R) (κ : ℕ → Bool) 
   pub piece-id : (v w : Box R D) → piece N S κ v ≡ some w → box-id w ≡ box-id v
   piece-id (own b) w e = go (κ (number S (b .id))) (feeds N S κ (b .id)) (note S (b .id)) e
     where
-      go : (s t : Bool) (n : Option R) → cond s (some (own (promising N S b))) (cond t (Option·map (assuming N S b) n) none) ≡ some w → box-id w ≡ b .id
+      go : (s t : Bool) (n : Option R) → cond s (some (own (promising N S b))) (cond t (Option·map (assuming b) n) none) ≡ some w → box-id w ≡ b .id
       go true t n q = ap box-id (sym (some-inj q))
       go false true (some n) q = ap box-id (sym (some-inj q))
       go false true none q = absurd (none-some q)
@@ -51,7 +51,7 @@ module _ {R P D : Type 0} (N : Network R P D) (S : Sheet R) (κ : ℕ → Bool) 
   unfolding bind
   own-piece (own b) = go (mine b) (feeds N S κ (b .id)) (note S (b .id))
     where
-      go : (s t : Bool) (n : Option R) → bind (cond s (some (own (promising N S b))) (cond t (Option·map (assuming N S b) n) none)) as-own ≡ cond s (some (promising N S b)) none
+      go : (s t : Bool) (n : Option R) → bind (cond s (some (own (promising N S b))) (cond t (Option·map (assuming b) n) none)) as-own ≡ cond s (some (promising N S b)) none
       go true t n = refl
       go false true (some n) = refl
       go false true none = refl
@@ -98,7 +98,7 @@ module _ {R P D : Type 0} (N : Network R P D) (S : Sheet R) (κ : ℕ → Bool) 
       at (own b) f w e a q = go (mine b) refl (feeds N S κ (b .id)) refl (note S (b .id)) refl e
         where
           go : (s : Bool) → mine b ≡ s → (t : Bool) → feeds N S κ (b .id) ≡ t → (n : Option R) → note S (b .id) ≡ n
-              → cond s (some (own (promising N S b))) (cond t (Option·map (assuming N S b) n) none) ≡ some w → Q a
+              → cond s (some (own (promising N S b))) (cond t (Option·map (assuming b) n) none) ≡ some w → Q a
           go true s t u n m z = absurd (none-some (ap as-input (some-inj z) ∙ q))
           go false s true u (some n) m z = subst Q (some-inj (ap as-input (some-inj z) ∙ q)) (f .1 b refl s u n m)
           go false s true u none m z = absurd (none-some z)
