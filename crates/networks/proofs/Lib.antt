@@ -3,4 +3,5 @@ pub mod Passing
 pub mod SameAnswer
 pub mod FragmentSound
 pub mod FragmentsAndWhole
+pub mod Recutting
 pub mod Laws

@@ -2,7 +2,7 @@
 --     is-cut, leaves, feeds     cut wires; the boxes that they leave; the boxes with a wire into a fragment
 --     promised .. piece         what a fragment keeps of a box
 --     fragment-of, fragment     the fragment of a set of numbers, and of one number
---     cut, Cuts                 the cutter's answer; a sheet cuts a network
+--     cut, cut-twice, Cuts      the cutter's answer; one cut upon another; a sheet cuts a network
 --     Agrees, Third             what demand 3 asks of a list and of three sheets
 use mathlib.Core.Path.{_≡_}
 use mathlib.Core.Bool.{Bool, true, false, cond, not, _&&_}
@@ -16,7 +16,7 @@ use Rattle.lists.specs.Filter.{filter}
 use Rattle.networks.specs.Algebra.{Algebra}
 use Rattle.networks.specs.Network.{Own, Box, own, input, Wire, Network, own-boxes, owns}
 use Rattle.networks.specs.Sheets.{Sheet, number, note}
-use Rattle.networks.specs.Answer.{Answer, given, refused, refuse, lowest, is-some, unentered}
+use Rattle.networks.specs.Answer.{Answer, given, refused, refuse, and-then, lowest, is-some, unentered}
 
 -- A network's own promise stays. Without one the note is promised where a cut wire leaves, and otherwise nothing.
 abbrev pub promised : {R : Type 0} → Option R → Bool → Option R → Option R
@@ -94,13 +94,17 @@ module _ (𝓐 : Algebra) where
       (refuse 19 (lowest (clashes N S) (own-boxes N))
       (given (fragment N S k))))
 
+  -- Fragment x by one sheet, and of that fragment y by another.
+  abbrev pub cut-twice : Network Route Policy Demand → Sheet Route → ℕ → Sheet Route → ℕ → Answer (Network Route Policy Demand)
+  cut-twice N X x Y y = and-then (cut N X x) (λ (F : Network Route Policy Demand). cut F Y y)
+
   -- A sheet cuts a network where cutting by it can meet no refusal but 18. (20 is about a buffer's room.)
   abbrev pub Cuts : Network Route Policy Demand → Sheet Route → Type 0
   Cuts N S = (k at place : ℕ) → cut N S k ≡ refused at place → at ≡ 18
 
 -- The third of three sheets with the same boxes and notes keeps two boxes together exactly where both others do.
-pub record Third {R : Type 0} (A B C : Sheet R) : Type 0 where
-  pub first-notes : (i : ℕ) → note A i ≡ note C i
-  pub second-notes : (i : ℕ) → note B i ≡ note C i
-  pub together : (u v : ℕ) → is-some (note C u) ≡ true → is-some (note C v) ≡ true
-      → (number C u ≡ number C v) ↔ ((number A u ≡ number A v) × (number B u ≡ number B v))
+pub record Third {R : Type 0} (X Y Z : Sheet R) : Type 0 where
+  pub first-notes : (i : ℕ) → note X i ≡ note Z i
+  pub second-notes : (i : ℕ) → note Y i ≡ note Z i
+  pub together : (u v : ℕ) → is-some (note Z u) ≡ true → is-some (note Z v) ≡ true
+      → (number Z u ≡ number Z v) ↔ ((number X u ≡ number X v) × (number Y u ≡ number Y v))

@@ -2,13 +2,13 @@
 --     found, there             for either kind: what the box with an id knows, and each box is the one with its id
 --     own-found .. input-there     the same for own boxes and for inputs
 --     own-rise                 own boxes stand by rising id
---     owned, own-fact          from `owns` to the own box, and to what every own box has
+--     owned, own-fact, own-any     from `owns` to the own box, to what every own box has, and to a test that some own box meets
 use mathlib.Core.Path.{_≡_, refl, sym, ap, _∙_, subst}
 use mathlib.Core.Bool.{Bool, true, false, false≢true}
 use mathlib.Core.Option.{Option, none, some}
 use mathlib.Core.List.{List, filterMap}
 use Prim.Native.Nat.{ℕ}
-use Rattle.lists.specs.All.{All, all-map}
+use Rattle.lists.specs.All.{All, all-map, any, any-here}
 use Rattle.lists.specs.Filter.{some-inj, none-some, all-filterMap, filterMap-all}
 use Rattle.lists.specs.Sorted.{Rises, rises-filterMap, find-key, find-all, find-self}
 use Rattle.networks.specs.Network.{Own, Input, Box, own, input, Network, box-id, as-own, as-input, is-box, is-own, own-boxes, inputs, box, has-box, owns}
@@ -57,3 +57,9 @@ module _ {R P D : Type 0} (N : Network R P D) where
   -- what is known of every own box is known of the one with this id
   pub own-fact : (Q : ℕ → Type 0) (i : ℕ) → All (λ (b : Own R D). Q (b .id)) (own-boxes N) → owns N i ≡ true → Q i
   own-fact Q i h t = let f = owned i t in subst Q (f .2) (own-found (λ (b : Own R D). Q (b .id)) i (f .0) h (f .1))
+
+  -- an own box that meets a test is one of the own boxes that do
+  pub own-any : (test : ℕ → Bool) (i : ℕ) → owns N i ≡ true → test i ≡ true → any (λ (b : Own R D). test (b .id)) (own-boxes N) ≡ true
+  own-any test i t e =
+      let f = owned i t in
+      own-found (λ (b : Own R D). (p : Own R D → Bool) → p b ≡ true → any p (own-boxes N) ≡ true) i (f .0) (any-here (own-boxes N)) (f .1) (λ (b : Own R D). test (b .id)) (ap test (f .2) ∙ e)

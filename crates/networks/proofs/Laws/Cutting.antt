@@ -1,7 +1,7 @@
 -- The cutter's answer, taken apart.
 --     lowest-none .. refuse-given     the rows of a table of refusals
 --     Fits                            what `Cuts` says, box by box
---     cut-answer, cut-given           the answer of a sheet that fits; what an answer that was given tells
+--     cut-answer, own-cut, cut-given  the answers of a sheet that fits; what an answer that was given tells
 --     cuts-fits                       a sheet cuts a sound network exactly where it fits
 use mathlib.Core.Path.{_≡_, refl, sym, ap, _∙_}
 use mathlib.Core.Bool.{Bool, true, false, cond, not, _&&_, false≢true}
@@ -17,11 +17,12 @@ use Rattle.lists.specs.Test.{or-i-l}
 use Rattle.lists.specs.All.{All, all-map, all-both, any}
 use Rattle.lists.specs.Filter.{some-inj, none-some}
 use Rattle.networks.specs.Algebra.{Algebra}
-use Rattle.networks.specs.Network.{Own, Network, own-boxes}
+use Rattle.networks.specs.Network.{Own, Network, own-boxes, owns}
 use Rattle.networks.specs.Sound.{Bounds, Sound}
 use Rattle.networks.specs.Sheets.{Sheet, number, note}
 use Rattle.networks.specs.Answer.{Answer, given, refused, refuse, lowest, is-some, Entered, unentered}
 use Rattle.networks.specs.Cut.{leaves, fragment, numbered, off-note, clashes, cut, Cuts}
+use Rattle.networks.proofs.Laws.Boxes.{own-any}
 
 -- the rows of a table
 pub lowest-none : {R D : Type 0} (test : Own R D → Bool) (bs : List (Own R D)) → lowest test bs ≡ none → All (λ (b : Own R D). test b ≡ false) bs
@@ -98,6 +99,10 @@ module _ (𝓐 : Algebra) where
     pub cut-answer : Fits N S → (k : ℕ) → cut 𝓐 N S k ≡ refuse 18 (cond (any (numbered N S k) (own-boxes N)) none (some k)) (given (fragment N S k))
     unfolding cut
     cut-answer h k = rw (entered-none N (note S) (h .entered), fits-none h) refl
+
+    -- and so the fragment of every own box is given
+    pub own-cut : Fits N S → (w : ℕ) → owns N w ≡ true → cut 𝓐 N S (number S w) ≡ given (fragment N S (number S w))
+    own-cut h w t = cut-answer h (number S w) ∙ rw (own-any N (λ (i : ℕ). eqb (number S i) (number S w)) w t (eq-eqb (number S w) (number S w) refl)) refl
 
     pub cut-given : (k : ℕ) (F : Network Route Policy Demand) → cut 𝓐 N S k ≡ given F → Fits N S × (any (numbered N S k) (own-boxes N) ≡ true) × (fragment N S k ≡ F)
     unfolding cut
