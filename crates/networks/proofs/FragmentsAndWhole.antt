@@ -18,9 +18,18 @@ use Rattle.networks.specs.Cut.{promised, leaves, fragment-of, fragment, 
 use Rattle.networks.proofs.Laws.Pieces.{pieces-rise}
 use Rattle.networks.proofs.Laws.Formed.{Formed, is-some-true, sound-formed, fragment-formed}
 use Rattle.networks.proofs.Laws.Cutting.{Fits, cut-answer, cut-given, cuts-fits}
-use Rattle.networks.proofs.Laws.Solutions.{everywhere, anywhere, promised-note, solution-ext, whole-solved, fragment-solved}
+use Rattle.networks.proofs.Laws.Solutions.{everywhere, anywhere, promised-note, solution-ext, whole-solved, notes-kept, fragment-solved}
 use Rattle.networks.proofs.Laws.Judging.{own-held, passes-solved}
 use Rattle.networks.proofs.Laws.Mapping.{kept-mapping, empty-passes}
+
+-- The same of solutions alone, for any mapping: one that solves every fragment solves the whole and has the notes, and back.
+pub solutions-and-whole : (𝓐 : Algebra) (B : Bounds) (N : Network (𝓐 .Route) (𝓐 .Policy) (𝓐 .Demand)) (S : Sheet (𝓐 .Route)) (ℒ : ℕ → 𝓐 .Route)
+    → Sound B N → Cuts 𝓐 N S
+    → ((k : ℕ) → Solution 𝓐 (fragment N S k) ℒ) ↔ (Solution 𝓐 N ℒ × Agrees N S (λ (i : ℕ). some (ℒ i)))
+solutions-and-whole 𝓐 B N S ℒ sound cuts = (
+  λ h. (whole-solved 𝓐 N S ℒ (sound .inputs-used) h, notes-kept 𝓐 N S ℒ (sound .inputs-used) h ((cuts-fits 𝓐 N S B sound) .0 cuts)),
+  λ h. fragment-solved 𝓐 N S ℒ (sound-formed B N sound) (h .0) (h .1),
+)
 
 module _ (𝓐 : Algebra) (B : Bounds) (N : Network (𝓐 .Route) (𝓐 .Policy) (𝓐 .Demand)) (S : Sheet (𝓐 .Route)) (L : RouteList (𝓐 .Route))
     (sound : Sound B N) (cuts : Cuts 𝓐 N S) (entered : Entered N (listed L)) where
@@ -56,7 +65,7 @@ module _ (𝓐 : Algebra) (B : Bounds) (N : Network (𝓐 .Route) (𝓐 .Policy)
     whole-passes : Passes 𝓐 N L
     whole-passes = (passes-solved 𝓐 N L (formed .rise)) .1 (
       entered,
-      whole-solved 𝓐 N S formed fits (mapping 𝓐 N L) (sound .inputs-used)
+      whole-solved 𝓐 N S (mapping 𝓐 N L) (sound .inputs-used)
           (λ k. solution-ext 𝓐 (fragment N S k) (formed-in k) (mapping 𝓐 (fragment N S k) L) (mapping 𝓐 N L) (kept-mapping 𝓐 N S L k formed whole-agrees) (solved k .1)),
       all-map (own-boxes N) (λ b f. rw (f .0) (f .1)) (all-both _ _ (own-boxes N) (own-held 𝓐 N L (formed .rise)) demands),
     )
@@ -70,7 +79,7 @@ module _ (𝓐 : Algebra) (B : Bounds) (N : Network (𝓐 .Route) (𝓐 .Policy)
   part-passes passes agrees k = (passes-solved 𝓐 (fragment N S k) L (formed-in k .rise)) .1 (
     anywhere N S (λ (m : ℕ) (b : Own Route Demand). is-some (listed L (b .id)) ≡ true) entered k,
     solution-ext 𝓐 (fragment N S k) (formed-in k) (mapping 𝓐 N L) (mapping 𝓐 (fragment N S k) L) (λ i t. sym (kept-mapping 𝓐 N S L k formed agrees i t))
-        (fragment-solved 𝓐 N S formed fits (mapping 𝓐 N L) (solved .1) mapped-agrees k),
+        (fragment-solved 𝓐 N S (mapping 𝓐 N L) formed (solved .1) mapped-agrees k),
     all-map (own-boxes (fragment N S k)) (λ b f. rw (f .0) (f .1)) (all-both _ _ (own-boxes (fragment N S k)) (own-held 𝓐 (fragment N S k) L (formed-in k .rise)) demands),
   )
     where

@@ -1,4 +1,5 @@
 -- The theorems about networks, one a file, and the laws that they rest on.
+pub mod SoundTest
 pub mod Passing
 pub mod SameAnswer
 pub mod FragmentSound

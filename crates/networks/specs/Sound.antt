@@ -1,7 +1,7 @@
 -- Soundness of a network: what is left of document 01's refusals 3 and 7 to 10 where there are no bytes.
 --     Bounds             the greatest numbers of boxes, wires and policies
---     Joined, joined     a wire fits the network, as a fact and as a test
---     Sound, sound       soundness, as a fact and as a test; proofs/SoundTest.antt shows that they say the same
+--     Joined, Sound      a wire fits the network; the network is sound
+--     sound              the same as a test; proofs/SoundTest.antt shows that both say the same
 use mathlib.Core.Path.{_≡_}
 use mathlib.Core.Bool.{Bool, true, not}
 use mathlib.Core.List.{List, [], _∷_}
@@ -44,18 +44,21 @@ pub record Sound {R P D : Type 0} (B : Bounds) (N : Network R P D) : Type 0 wher
   -- a wire leads out of every input (10)
   pub inputs-used : All (λ (a : Input R). sends N (a .id) ≡ true) (inputs N)
 
+-- all tests of a list are true
+abbrev pub hold : List Bool → Bool
+hold tests = all (λ (t : Bool). t) tests
+
 module _ {R P D : Type 0} where
-  abbrev pub joined : Network R P D → Wire → Bool
-  joined N w = all (λ (t : Bool). t) (
+  abbrev pub joined-tests : Network R P D → Wire → List Bool
+  joined-tests N w =
       owns N (w .to)
       ∷ has-box N (w .from)
       ∷ not (eqb (w .to) (w .from))
       ∷ ltb (w .policy) (length (N .policies))
       ∷ []
-      )
 
-  unfoldable pub sound : Bounds → Network R P D → Bool
-  sound B N = all (λ (t : Bool). t) (
+  abbrev pub sound-tests : Bounds → Network R P D → List Bool
+  sound-tests B N =
       leb (length (N .boxes)) (B .boxes)
       ∷ leb (length (N .wires)) (B .wires)
       ∷ leb (length (N .policies)) (B .policies)
@@ -63,7 +66,9 @@ module _ {R P D : Type 0} where
       ∷ rises box-id 0 (N .boxes)
       ∷ ltb 0 (length (own-boxes N))
       ∷ rises wire-key 0 (N .wires)
-      ∷ all (joined N) (N .wires)
+      ∷ all (λ (w : Wire). hold (joined-tests N w)) (N .wires)
       ∷ all (λ (a : Input R). sends N (a .id)) (inputs N)
       ∷ []
-      )
+
+  unfoldable pub sound : Bounds → Network R P D → Bool
+  sound B N = hold (sound-tests B N)

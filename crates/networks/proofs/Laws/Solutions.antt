@@ -1,8 +1,10 @@
 -- Solutions, for any mapping ℒ, in a network and in its fragments.
---     solution-ext              a solution is read at the network's boxes only
---     due-fragment              the due route of an own box is the same in its fragment
---     solutions-cut             ℒ solves every fragment exactly where it solves the network and has the notes where cut wires leave
---     everywhere                what every fragment's own boxes have, every own box has
+--     everywhere, anywhere           what every fragment's own boxes have, every own box has, and back
+--     promised-note ..               promises in a fragment
+--     solution-ext                   a solution is read at the network's boxes only
+--     due-fragment                   the due route of an own box is the same in its fragment
+--     whole-solved, notes-kept       what solves every fragment solves the network, and has the notes where cut wires leave
+--     fragment-solved                and back
 use mathlib.Core.Path.{_≡_, refl, sym, ap, _∙_, subst}
 use mathlib.Core.Bool.{Bool, true, false, _&&_, false≢true}
 use mathlib.Core.Logic.{_↔_}
@@ -81,7 +83,7 @@ module _ (𝓐 : Algebra) where
   due-fragment N S ℒ b = ap (λ (ws : List Wire). best-of 𝓐 (b .initial) (map (λ (w : Wire). trans 𝓐 N w (ℒ (w .from))) ws))
       (wires-into-fragment N S (λ (n : ℕ). eqb n (number S (b .id))) (b .id) (eq-eqb (number S (b .id)) (number S (b .id)) refl))
 
-  module _ (N : Network Route Policy Demand) (S : Sheet Route) (formed : Formed N) (fits : Fits N S) (ℒ : ℕ → Route) where
+  module _ (N : Network Route Policy Demand) (S : Sheet Route) (ℒ : ℕ → Route) where
     -- from the fragments to the network
     module _ (used : All (λ (a : Input Route). sends N (a .id) ≡ true) (inputs N)) (solved : (k : ℕ) → Solution 𝓐 (fragment N S k) ℒ) where
       promises : All (λ (b : Own Route Demand). (q : Route) → promised (b .promise) (leaves N S (b .id)) (note S (b .id)) ≡ some q → ℒ (b .id) ≡ q) (own-boxes N)
@@ -107,13 +109,13 @@ module _ (𝓐 : Algebra) where
         equation-8 = all-map (own-boxes N) (λ b f. promised-own (ℒ (b .id)) (b .promise) (note S (b .id)) (leaves N S (b .id)) f) promises;
       }
 
-      pub notes-kept : Agrees N S (λ (i : ℕ). some (ℒ i))
-      notes-kept = all-map (own-boxes N) (λ b f l. promised-note (ℒ (b .id)) (b .promise) (note S (b .id)) (leaves N S (b .id)) l (f .0) (f .1 .0 l) (f .1 .1))
+      pub notes-kept : Fits N S → Agrees N S (λ (i : ℕ). some (ℒ i))
+      notes-kept fits = all-map (own-boxes N) (λ b f l. promised-note (ℒ (b .id)) (b .promise) (note S (b .id)) (leaves N S (b .id)) l (f .0) (f .1 .0 l) (f .1 .1))
           (all-both _ _ (own-boxes N) (fits .entered) (all-both _ _ (own-boxes N) (fits .notes) promises))
 
     -- and back
-    pub fragment-solved : Solution 𝓐 N ℒ → Agrees N S (λ (i : ℕ). some (ℒ i)) → (k : ℕ) → Solution 𝓐 (fragment N S k) ℒ
-    fragment-solved h agrees k = record {
+    pub fragment-solved : Formed N → Solution 𝓐 N ℒ → Agrees N S (λ (i : ℕ). some (ℒ i)) → (k : ℕ) → Solution 𝓐 (fragment N S k) ℒ
+    fragment-solved formed h agrees k = record {
       equation-6 = anywhere N S (λ (m : ℕ) (b : Own Route Demand). ℒ (b .id) ≡ due 𝓐 (fragment N S m) ℒ b)
           (all-map (own-boxes N) (λ b e. e ∙ sym (due-fragment N S ℒ b)) (h .equation-6)) k;
       equation-7 = inputs-kept N S (λ (n : ℕ). eqb n k) (λ (a : Input Route). ℒ (a .id) ≡ a .assumed)
