@@ -6,7 +6,7 @@
 use mathlib.Core.Path.{_≡_, refl, sym, ap, ap₂, _∙_, subst}
 use mathlib.Core.Bool.{Bool, true, false, cond, _&&_, _||_, false≢true}
 use mathlib.Core.Option.{Option, none, some, Option·elim}
-use mathlib.Core.List.{List, [], _∷_, filterMap, map}
+use mathlib.Core.List.{List, [], _∷_, filterMap, filterMap-some, map}
 use Prim.Native.Nat.{ℕ, suc, _≤_, _<_}
 use native.Mathlib.Omega.{arith}
 use lib.ListN.{length}
@@ -166,3 +166,7 @@ module _ {A B : Type 0} where
           → ((y : B) → f x ≡ some y → P y) × All (λ (z : A). (y : B) → f z ≡ some y → P y) xs
       go none q k r = (λ y e. absurd (none-some (sym q ∙ e)), r k)
       go (some z) q k r = (λ y e. subst P (some-inj (sym q ∙ e)) (k .0), r (k .1))
+
+-- a partial function that gives back every element
+pub filterMap-self : {A : Type 0} (f : A → Option A) (xs : List A) → All (λ (x : A). f x ≡ some x) xs → filterMap f xs ≡ xs
+filterMap-self f xs h = filterMap-congr f some xs h ∙ filterMap-some xs

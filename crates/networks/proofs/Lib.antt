@@ -5,4 +5,5 @@ pub mod SameAnswer
 pub mod FragmentSound
 pub mod FragmentsAndWhole
 pub mod Recutting
+pub mod OneFragment
 pub mod Laws
