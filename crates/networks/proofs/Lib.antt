@@ -6,4 +6,5 @@ pub mod FragmentSound
 pub mod FragmentsAndWhole
 pub mod Recutting
 pub mod OneFragment
+pub mod PaperCut
 pub mod Laws

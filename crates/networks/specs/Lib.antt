@@ -8,3 +8,4 @@ pub mod Answer
 pub mod Solution
 pub mod Judge
 pub mod Cut
+pub mod Paper
