@@ -72,6 +72,7 @@ module _ (w : ℕ) (b : List ℕ) (o : ℕ) where
   route-held f p e = rw (ne-eqb _ _ p, e)
 
 pub ruleset forming = (formed-none, formed-held, formed-other)
+
 pub ruleset reading = (route-none, route-held)
 
 pub fields-read : (b : List ℕ) (o preference cost origin tags : ℕ)

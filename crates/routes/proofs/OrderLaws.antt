@@ -78,7 +78,9 @@ module _ (a b : Route) where
       better-kept h = rw (e, q, ← w, h)
 
 pub ruleset outranking = (by-preference, by-cost, by-origin, by-tags)
+
 pub ruleset comparing = (differ-preference, differ-cost, differ-origin, equal-tags)
+
 pub ruleset choosing = (better-none, better-first, better-second, better-kept)
 
 -- equality

@@ -66,9 +66,19 @@ PolicyFormed b o = Bytes b × (policyFormed b o ≡ true)
 
 pub policy-formed : (b : List ℕ) (o : ℕ) → PolicyFormed b o → seven .Formed b o
 policy-formed b o h =
-    let z = h .0 in
-    ((z o, z (o + 1)), ((z (o + 2), z (o + 2 + 1)), ((z (o + 2 + 2), z (o + 2 + 2 + 1)), ((z (o + 2 + 2 + 2), z (o + 2 + 2 + 2 + 1)),
-    (tt, ((z (o + 2 + 2 + 2 + 2 + 1), z (o + 2 + 2 + 2 + 2 + 1 + 1)), (z (o + 2 + 2 + 2 + 2 + 1 + 2), z (o + 2 + 2 + 2 + 2 + 1 + 2 + 1))))))))
+    let z = h .0 in (
+      (z o, z (o + 1)),
+      (
+        (z (o + 2), z (o + 2 + 1)),
+        (
+          (z (o + 2 + 2), z (o + 2 + 2 + 1)),
+          (
+            (z (o + 2 + 2 + 2), z (o + 2 + 2 + 2 + 1)),
+            (tt, ((z (o + 2 + 2 + 2 + 2 + 1), z (o + 2 + 2 + 2 + 2 + 1 + 1)), (z (o + 2 + 2 + 2 + 2 + 1 + 2), z (o + 2 + 2 + 2 + 2 + 1 + 2 + 1)))),
+          ),
+        ),
+      ),
+    )
 
 -- the flag's byte
 pub flag-byte : (b : List ℕ) (o : ℕ) → policyFormed b o ≡ true → cond (eqb (getD b (o + 8) 0) 1) 1 0 ≡ getD b (o + 8) 0

@@ -28,21 +28,21 @@ module _ (op : ℕ → ℕ → ℕ) (f : Bool → Bool → Bool)
     (low : (a b k : ℕ) → op a b % 2 ^ k ≡ op (a % 2 ^ k) (b % 2 ^ k))
     (on : (f (eqb 0 1) (eqb 0 1) ≡ eqb (op 0 0) 1) × (f (eqb 0 1) (eqb 1 1) ≡ eqb (op 0 1) 1) × (f (eqb 1 1) (eqb 0 1) ≡ eqb (op 1 0) 1) × (f (eqb 1 1) (eqb 1 1) ≡ eqb (op 1 1) 1))
   where
-  on-bits : (x y : ℕ) → x < 2 → y < 2 → eqb (op x y) 1 ≡ f (eqb x 1) (eqb y 1)
-  on-bits zero zero h k = sym (on .0)
-  on-bits zero (suc zero) h k = sym (on .1)
-  on-bits (suc zero) zero h k = sym (on .2)
-  on-bits (suc zero) (suc zero) h k = sym (on .3)
-  on-bits (suc (suc x)) y h k = absurd (omega arith)
-  on-bits zero (suc (suc y)) h k = absurd (omega arith)
-  on-bits (suc zero) (suc (suc y)) h k = absurd (omega arith)
+    on-bits : (x y : ℕ) → x < 2 → y < 2 → eqb (op x y) 1 ≡ f (eqb x 1) (eqb y 1)
+    on-bits zero zero h k = sym (on .0)
+    on-bits zero (suc zero) h k = sym (on .1)
+    on-bits (suc zero) zero h k = sym (on .2)
+    on-bits (suc zero) (suc zero) h k = sym (on .3)
+    on-bits (suc (suc x)) y h k = absurd (omega arith)
+    on-bits zero (suc (suc y)) h k = absurd (omega arith)
+    on-bits (suc zero) (suc (suc y)) h k = absurd (omega arith)
 
-  tag-by-tag : (i a b : ℕ) → tag i (op a b) ≡ f (tag i a) (tag i b)
-  unfolding tag
-  tag-by-tag i a b =
-      ap (λ (n : ℕ). eqb (n % 2) 1) (shr a b i)
-      ∙ ap (λ (n : ℕ). eqb n 1) (low (a / 2 ^ i) (b / 2 ^ i) 1)
-      ∙ on-bits (a / 2 ^ i % 2) (b / 2 ^ i % 2) (omega arith) (omega arith)
+    tag-by-tag : (i a b : ℕ) → tag i (op a b) ≡ f (tag i a) (tag i b)
+    unfolding tag
+    tag-by-tag i a b =
+        ap (λ (n : ℕ). eqb (n % 2) 1) (shr a b i)
+        ∙ ap (λ (n : ℕ). eqb n 1) (low (a / 2 ^ i) (b / 2 ^ i) 1)
+        ∙ on-bits (a / 2 ^ i % 2) (b / 2 ^ i % 2) (omega arith) (omega arith)
 
 pub tag-and : (i a b : ℕ) → tag i (bitAnd a b) ≡ tag i a && tag i b
 tag-and = tag-by-tag bitAnd _&&_ and-shr and-mod (refl, refl, refl, refl)

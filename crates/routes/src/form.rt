@@ -8,8 +8,12 @@ ghost use mathlib.Core.List.{[], _∷_};
 ghost use Rattle.lists.specs.Rows.{laidRows};
 ghost use Rattle.numbers.specs.BigEndian.{u16Bytes};
 ghost use Rattle.routes.specs.Form.{zeros, fieldsAt, routeAt, routeBytes, routeFormed, policyAt, policyBytes, policyFormed};
-use crate::{Fields, Policy, Route};
-use numbers::{put_u16, put_u8, u16_at};
+use crate::Fields;
+use crate::Policy;
+use crate::Route;
+use numbers::put_u8;
+use numbers::put_u16;
+use numbers::u16_at;
 
 // Whether the n bytes of b at an offset are zero.
 fn all_zero(b: &[u8], at: usize, n: usize) -> bool

@@ -7,11 +7,15 @@ mod met;
 mod order;
 mod wire;
 
-pub use form::{
-    policy_at, policy_formed, put_policy, put_route, route_at, route_formed,
-};
+pub use form::policy_at;
+pub use form::policy_formed;
+pub use form::put_policy;
+pub use form::put_route;
+pub use form::route_at;
+pub use form::route_formed;
 pub use met::is_met;
-pub use order::{better, same};
+pub use order::better;
+pub use order::same;
 pub use wire::carry;
 
 // A route that is there.

@@ -1,7 +1,8 @@
 // Whether a demand is met.
 ghost use mathlib.Core.Path.{_≡_};
 ghost use Rattle.routes.specs.Demand.{meets};
-use crate::{Demand, Route};
+use crate::Demand;
+use crate::Route;
 
 // Whether the route that a box holds meets the demand set there.
 pub fn is_met(demand: Demand, route: Route) -> bool

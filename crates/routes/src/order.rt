@@ -3,7 +3,8 @@ ghost use mathlib.Core.Path.{_≡_};
 ghost use Rattle.lists.specs.Best.{best};
 ghost use Rattle.routes.specs.Order.{beats, same as Order·same};
 ghost use Rattle.routes.specs.declared.Route.the-variants.{Held};
-use crate::{Fields, Route};
+use crate::Fields;
+use crate::Route;
 
 // Whether x beats y.
 fn outranks(x: Fields, y: Fields) -> bool
@@ -29,13 +30,7 @@ pub fn better(a: Route, b: Route) -> Route
         Route::None => b,
         Route::Held(x) => match b {
             Route::None => a,
-            Route::Held(y) => {
-                if outranks(y, x) {
-                    b
-                } else {
-                    a
-                }
-            }
+            Route::Held(y) => { if outranks(y, x) { b } else { a } }
         },
     }
 }

@@ -2,7 +2,9 @@
 ghost use mathlib.Core.Path.{_≡_};
 ghost use mathlib.Core.Bool.{cond};
 ghost use Rattle.routes.specs.Carry.{carried};
-use crate::{Fields, Policy, Route};
+use crate::Fields;
+use crate::Policy;
+use crate::Route;
 
 // The preference that a policy leaves.
 fn chosen(flag: bool, replaced: u16, kept: u16) -> u16

@@ -1,0 +1,2 @@
+-- What the suite promises.
+pub mod Bench
