@@ -1,7 +1,7 @@
 -- The digits of a number, counted, and told by how few they are.
-use mathlib.Core.Path.{_≡_, refl, sym, ap, ap₂, _∙_}
+use mathlib.Core.Path.{_≡_, refl, ap, _∙_}
 use mathlib.Core.Bool.{Bool, true, false}
-use mathlib.Core.List.{List, [], _∷_, _++_}
+use mathlib.Core.List.{[], _∷_}
 use mathlib.Core.Logic.{⊎-elim}
 use Prim.Native.Nat.{ℕ, zero, suc, _+_, _-_, _/_, _%_, _^_, _≤_, _<_}
 use native.Mathlib.Nat.{pow-le-pow-right, zero-lt-suc}
@@ -11,7 +11,7 @@ use lib.Dec.{leb}
 use lib.ListN.{length, length-append}
 use borrow.Author.Tests.{le-leb, lt-leb}
 use Rattle.io.specs.Digits.{digits, glyph, Fewest}
-use Rattle.lists.specs.First.{firstBad, first-here, first-none}
+use Rattle.lists.specs.First.{first-here, first-none}
 use Rattle.lists.specs.Test.{le-or-lt}
 use Rattle.numbers.specs.Decimal.{places, decimal}
 

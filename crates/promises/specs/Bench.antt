@@ -1,7 +1,7 @@
 -- The bench examples of document 01 that are marked P: one table, one statement.
 -- Each row has an answer of the definitions, as numbers, and the numbers that it must be.
 use mathlib.Core.Path.{_≡_, refl}
-use mathlib.Core.Bool.{Bool, true, false}
+use mathlib.Core.Bool.{false}
 use mathlib.Core.List.{List, [], _∷_, map}
 use Prim.Native.Nat.{ℕ}
 use Rattle.lists.specs.Best.{best}

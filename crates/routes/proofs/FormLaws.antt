@@ -2,20 +2,19 @@
 --     zeros             a run of zero bytes, looked at and stored
 --     routes            its readers' and writers' ways
 --     policies          its readers' and writers' ways
-use mathlib.Core.Path.{_≡_, refl, sym, ap, _∙_}
+use mathlib.Core.Path.{_≡_, refl, sym}
 use mathlib.Core.Bool.{Bool, true, false, cond}
-use mathlib.Core.List.{List, [], _∷_, _++_, append-nil}
+use mathlib.Core.List.{List, [], _∷_, _++_}
 use Prim.Native.Nat.{ℕ, _+_, _-_, _≤_, _<_}
 use native.Mathlib.Omega.{arith}
 use lib.Dec.{eqb}
-use lib.ListN.{length, getD, replicate, set, length-replicate, length-append}
+use lib.ListN.{getD, replicate, set, length-replicate}
 use lib.Seq.{sets}
 use borrow.Author.Tests.{eq-eqb, ne-eqb}
-use Rattle.lists.specs.First.{every, Passed, passed-none, passed-more, every-yes, every-no}
+use Rattle.lists.specs.First.{Passed, passed-none, passed-more, every-yes, every-no}
 use Rattle.lists.specs.Rows.{laidRows}
-use Rattle.lists.specs.Stores.{stored-on, stored-again}
+use Rattle.lists.specs.Stores.{stored-on}
 use Rattle.numbers.specs.BigEndian.{u16At, u16Bytes}
-use Rattle.numbers.specs.Codecs.{length-u16}
 use Rattle.routes.specs.Form.{zeros, fieldsAt, fieldsBytes, routeAt, routeBytes, routeFormed, policyAt, policyBytes, policyFormed}
 use Rattle.routes.specs.declared.Fields.{Fields}
 use Rattle.routes.specs.declared.Policy.{Policy}

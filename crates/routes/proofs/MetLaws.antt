@@ -1,6 +1,6 @@
 -- The cases of a demand, one a law, as the code takes them.
-use mathlib.Core.Path.{_≡_, refl}
-use mathlib.Core.Bool.{Bool, true, false}
+use mathlib.Core.Path.{_≡_}
+use mathlib.Core.Bool.{true, false}
 use Prim.Native.Nat.{ℕ, _≤_, _<_}
 use lib.Bits.{bitAnd}
 use lib.Dec.{eqb}

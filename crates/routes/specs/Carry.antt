@@ -1,7 +1,7 @@
 -- What a wire makes of a route (document 01, 'Over a wire').
 use Prim.Native.Nat.{ℕ, _+_, _-_}
 use mathlib.Core.Bool.{Bool, cond, not}
-use mathlib.Core.List.{List, [], _∷_}
+use mathlib.Core.List.{[], _∷_}
 use lib.Bits.{bitAnd, bitOr}
 use lib.Dec.{eqb, ltb}
 use Rattle.lists.specs.Test.{firstOf}

@@ -1,7 +1,7 @@
 -- A route and a policy as bytes (document 01, 'Routes and wires'). A route's width is w: a present byte, w - 9 zero bytes, and the
 -- fields in the last eight. In records of version 1 the width is 9.
 use Prim.Native.Nat.{ℕ, _+_, _-_}
-use mathlib.Core.Bool.{Bool, true, false, cond, _&&_}
+use mathlib.Core.Bool.{Bool, cond, _&&_}
 use mathlib.Core.List.{List, [], _∷_, _++_}
 use lib.Dec.{eqb}
 use lib.ListN.{getD, replicate}

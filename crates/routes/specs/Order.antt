@@ -1,6 +1,6 @@
 -- Which of two routes is better (document 01, 'Better').
 use mathlib.Core.Bool.{Bool, true, false, _&&_}
-use mathlib.Core.List.{List, [], _∷_}
+use mathlib.Core.List.{[], _∷_}
 use lib.Dec.{eqb}
 use Rattle.lists.specs.Best.{firstLower}
 use Rattle.routes.specs.declared.Route.{Route}

@@ -1,10 +1,9 @@
 -- The order of routes: no two beat each other, beating is handed on, and two routes neither of which beats the other are the same.
 -- So the best of two is selective, commutative and associative, and no route is its identity.
 use mathlib.Core.Path.{_≡_, refl, sym, ap, _∙_}
-use mathlib.Core.Bool.{Bool, true, false, cond, _&&_, false≢true}
+use mathlib.Core.Bool.{true, false, _&&_, false≢true}
 use mathlib.Core.Logic.{_⊎_}
-use Prim.Native.Nat.{ℕ}
-use lib.Dec.{eqb, ltb}
+use lib.Dec.{eqb}
 use borrow.Author.Tests.{eqb-true, eq-eqb}
 use Rattle.lists.specs.Best.{best, Order, decide-once, decide-none, decide-on, best-selective, best-commutative, best-associative}
 use Rattle.lists.specs.Test.{and-l, and-r}

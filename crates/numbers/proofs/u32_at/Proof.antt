@@ -1,40 +1,30 @@
+-- Two numbers of two bytes make one of four by its definition.
 use borrow.Author.Needs.{needs}
 use Rattle.numbers.specs.BigEndian.{u32At}
 use Rattle.numbers.proofs.u32_at.Statement.{statement}
 use Rattle.numbers.proofs.u32_at.Tie as tie
-use Rattle.numbers.proofs.u32_at.Reads as reads
-use Rattle.numbers.proofs.u32_at.Lts as lts
-use Rattle.numbers.proofs.u16_at.Reads as u16-at-reads
 
--- src/lib.rt:32:6
 u16-at-requires : tie.Need-u16-at-requires
 u16-at-requires c κs = search needs
 
--- src/lib.rt:32:6
 cast-result : tie.Need-cast-result
 cast-result c = search needs
 
--- src/lib.rt:32:5
 mul-result : tie.Need-mul-result
 mul-result c = search needs
 
--- src/lib.rt:32:49
 add-u16-at : tie.Need-add-u16-at
 add-u16-at c = search needs
 
--- src/lib.rt:32:39
 u16-at-requires-2 : tie.Need-u16-at-requires-2
 u16-at-requires-2 c κs = search needs
 
--- src/lib.rt:32:39
 cast-result-2 : tie.Need-cast-result-2
 cast-result-2 c = search needs
 
--- src/lib.rt:32:5
 add-result : tie.Need-add-result
 add-result c = search needs
 
--- src/lib.rt:28:1
 returns : tie.Need-returns
 unfolding u32At
 returns c = search needs

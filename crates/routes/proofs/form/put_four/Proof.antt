@@ -1,44 +1,33 @@
+-- Four numbers of two bytes, stored one behind another (four-put).
 use Rattle.routes.proofs.FormLaws.{four-put}
 use borrow.Author.Needs.{needs}
 use Rattle.routes.proofs.form.put_four.Statement.{statement}
 use Rattle.routes.proofs.form.put_four.Tie as tie
-use Rattle.routes.proofs.form.put_four.Reads as reads
-use Rattle.routes.proofs.form.put_four.Lts as lts
-use Rattle.numbers.proofs.put_u16.Reads as put-u16-reads
 
--- src/form.rt:81:5
 put-u16-requires : tie.Need-put-u16-requires
 put-u16-requires c κs = search needs
 
--- src/form.rt:82:18
 add-put-u16 : tie.Need-add-put-u16
 add-put-u16 c = search needs
 
--- src/form.rt:82:5
 put-u16-requires-2 : tie.Need-put-u16-requires-2
 put-u16-requires-2 c κs = search needs
 
--- src/form.rt:83:18
 add-put-u16-2 : tie.Need-add-put-u16-2
 add-put-u16-2 c = search needs
 
--- src/form.rt:83:5
 put-u16-requires-3 : tie.Need-put-u16-requires-3
 put-u16-requires-3 c κs = search needs
 
--- src/form.rt:84:18
 add-put-u16-3 : tie.Need-add-put-u16-3
 add-put-u16-3 c = search needs
 
--- src/form.rt:84:5
 put-u16-requires-4 : tie.Need-put-u16-requires-4
 put-u16-requires-4 c κs = search needs
 
--- src/form.rt:77:1
 same-length : tie.Need-same-length
 same-length c = search needs
 
--- src/form.rt:77:1
 returns : tie.Need-returns
 returns c = search (needs, four-put)
 

@@ -1,3 +1,4 @@
+-- After i turns a run of i zeros is stored (stored-again), and after n turns all of them.
 use Rattle.routes.proofs.FormLaws.{zeros-put}
 use Rattle.lists.specs.Stores.{stored-again}
 use lib.Seq.{sets}
@@ -7,8 +8,6 @@ use Prim.Native.Nat.{_≤_, _-_}
 use borrow.Author.Needs.{needs}
 use Rattle.routes.proofs.form.put_zeros.Statement.{statement}
 use Rattle.routes.proofs.form.put_zeros.Tie as tie
-use Rattle.routes.proofs.form.put_zeros.Reads as reads
-use Rattle.routes.proofs.form.put_zeros.Lts as lts
 
 abbrev Inv-loop : tie.InvT-loop
 Inv-loop out₀ at n i₀ out i = (i ≤ n) × (length out ≡ length out₀) × (out ≡ sets out₀ at (replicate i 0))
@@ -16,35 +15,27 @@ Inv-loop out₀ at n i₀ out i = (i ≤ n) × (length out ≡ length out₀) ×
 abbrev μ-loop : tie.MeasureT-loop
 μ-loop out₀ at n i₀ out i = n - i
 
--- src/form.rt:67:5
 loop-holds : tie.Need-loop-holds Inv-loop μ-loop
 loop-holds c = (search needs, refl, refl)
 
--- src/form.rt:68:13
 add-out : tie.Need-add-out Inv-loop μ-loop
 add-out c = search needs
 
--- src/form.rt:68:9
 slice-write-out : tie.Need-slice-write-out Inv-loop μ-loop
 slice-write-out c = search needs
 
--- src/form.rt:69:9
 add-i : tie.Need-add-i Inv-loop μ-loop
 add-i c = search needs
 
--- src/form.rt:67:5
 loop-less : tie.Need-loop-less Inv-loop μ-loop
 loop-less c = search needs
 
--- src/form.rt:67:5
 loop-again : tie.Need-loop-again Inv-loop μ-loop
 loop-again c = (search needs, simp length-set (search needs), search (needs, stored-again))
 
--- src/form.rt:62:1
 same-length : tie.Need-same-length Inv-loop μ-loop
 same-length c = search needs
 
--- src/form.rt:62:1
 returns : tie.Need-returns Inv-loop μ-loop
 returns c = search (needs, zeros-put)
 

@@ -1,36 +1,27 @@
+-- One law for each arm of the match on the present byte.
 use Rattle.routes.proofs.FormLaws.{reading}
 use borrow.Author.Needs.{needs}
 use Rattle.routes.proofs.form.route_at.Statement.{statement}
 use Rattle.routes.proofs.form.route_at.Tie as tie
-use Rattle.routes.proofs.form.route_at.Reads as reads
-use Rattle.routes.proofs.form.route_at.Lts as lts
-use Rattle.routes.proofs.form.fields_at.Reads as fields-at-reads
 
--- src/form.rt:55:11
 shared-slice-read-match : tie.Need-shared-slice-read-match
 shared-slice-read-match c = search needs
 
--- src/form.rt:57:39
 add-fields-at : tie.Need-add-fields-at
 add-fields-at c = search needs
 
--- src/form.rt:57:49
 sub-fields-at : tie.Need-sub-fields-at
 sub-fields-at c = search needs
 
--- src/form.rt:57:39
 add-fields-at-2 : tie.Need-add-fields-at-2
 add-fields-at-2 c = search needs
 
--- src/form.rt:57:26
 fields-at-requires : tie.Need-fields-at-requires
 fields-at-requires c κs = search needs
 
--- src/form.rt:51:1
 returns : tie.Need-returns
 returns c = search (needs, reading)
 
--- src/form.rt:51:1
 returns-2 : tie.Need-returns-2
 returns-2 c = search (needs, reading)
 

@@ -1,23 +1,18 @@
+-- One law for each decision, in the order's own order.
 use Rattle.routes.proofs.OrderLaws.{outranking}
 use borrow.Author.Needs.{needs}
 use Rattle.routes.proofs.order.outranks.Statement.{statement}
 use Rattle.routes.proofs.order.outranks.Tie as tie
-use Rattle.routes.proofs.order.outranks.Reads as reads
-use Rattle.routes.proofs.order.outranks.Lts as lts
 
--- src/order.rt:13:9
 returns : tie.Need-returns
 returns c = search (needs, outranking)
 
--- src/order.rt:16:9
 returns-2 : tie.Need-returns-2
 returns-2 c = search (needs, outranking)
 
--- src/order.rt:19:9
 returns-3 : tie.Need-returns-3
 returns-3 c = search (needs, outranking)
 
--- src/order.rt:9:1
 returns-4 : tie.Need-returns-4
 returns-4 c = search (needs, outranking)
 
