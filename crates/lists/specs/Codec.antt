@@ -1,13 +1,15 @@
 -- Values as bytes at an offset, and back: what is written is read back, and what is read from well-formed bytes is written as the same bytes.
 --     Codec                 a value's width and bytes, and the value at an offset
+--     byte, blank           a single byte; zero bytes
 --     pair, named           two values one after the other; the same bytes under another type
+--     restated              the same codec, written out another way
 --     rows-in, rows-forth   the two ways for values in a row
 use mathlib.Core.Path.{_≡_, refl, sym, ap, ap₂, _∙_}
 use mathlib.Core.List.{List, [], _∷_, _++_, append-assoc}
 use Prim.Native.Nat.{ℕ, zero, suc, _+_, _*_, _≤_, _<_}
 use native.Mathlib.Omega.{arith}
-use lib.ListN.{length, getD, take, drop, length-append}
-use lib.Seq.{getD-append-seam, take-add, drop-drop, drop-cons}
+use lib.ListN.{length, getD, take, drop, replicate, length-append, length-take, length-drop, length-replicate, getD-replicate}
+use lib.Seq.{getD-append-seam, take-add, drop-drop, drop-cons, ext-getD, getD-take, getD-drop}
 use Rattle.lists.specs.All.{All}
 use Rattle.lists.specs.Rows.{rows, laidRows, rows-back}
 
@@ -36,6 +38,30 @@ byte = record {
   size = λ n. refl;
   back = λ pre n post h. getD-append-seam pre n post 0;
   forth = λ b o h w. byte-forth b o h;
+}
+
+-- what every byte slice keeps
+abbrev pub Bytes : List ℕ → Type 0
+Bytes b = (i : ℕ) → getD b i 0 < 256
+
+pub zero-run : (b : List ℕ) (o n : ℕ) → o + n ≤ length b → ((k : ℕ) → k < n → getD b (o + k) 0 ≡ 0) → replicate n 0 ≡ take n (drop o b)
+zero-run b o n h z =
+    let long : length (take n (drop o b)) ≡ n = simp (length-take, length-drop) (omega arith) in
+    ext-getD 0 (replicate n 0) (take n (drop o b)) (length-replicate n 0 ∙ sym long)
+    (λ i l. let m : i < n = omega (arith, length-replicate {A = ℕ} n 0) in
+    getD-replicate n i 0 0 m ∙ sym (getD-take n (drop o b) i 0 m ∙ getD-drop o b i 0 ∙ z i m))
+
+-- n zero bytes, which say nothing
+abbrev pub blank : ℕ → Codec (Unit {0})
+blank n = record {
+  width = n;
+  Fits = λ (u : Unit {0}). Unit {0};
+  bytes = λ (u : Unit {0}). replicate n 0;
+  value = λ (b : List ℕ) (o : ℕ). tt;
+  Formed = λ (b : List ℕ) (o : ℕ). (k : ℕ) → k < n → getD b (o + k) 0 ≡ 0;
+  size = λ u. length-replicate n 0;
+  back = λ pre u post h. refl;
+  forth = λ b o h w. zero-run b o n h w;
 }
 
 module _ {A B : Type 0} (c : Codec A) (d : Codec B) where
@@ -88,6 +114,21 @@ module _ {A B : Type 0} (c : Codec A) (f : A → B) (g : B → A) (Fits : B → 
     size = λ y. c .size (g y);
     back = λ pre y post h. ap f (c .back pre (g y) post (fits y h)) ∙ there y h;
     forth = λ b o h w. ap (c .bytes) (here b o w) ∙ c .forth b o h (formed b o w);
+  }
+
+-- the same codec, with its width, bytes and values written out another way
+module _ {A : Type 0} (c : Codec A) (width : ℕ) (bytes : A → List ℕ) (value : List ℕ → ℕ → A)
+    (same-width : width ≡ c .width) (same-bytes : (a : A) → bytes a ≡ c .bytes a) (same-value : (b : List ℕ) (o : ℕ) → value b o ≡ c .value b o) where
+  abbrev pub restated : Codec A
+  restated = record {
+    width = width;
+    Fits = c .Fits;
+    bytes = bytes;
+    value = value;
+    Formed = c .Formed;
+    size = λ a. ap length (same-bytes a) ∙ c .size a ∙ sym same-width;
+    back = λ pre a post h. same-value (pre ++ (bytes a ++ post)) (length pre) ∙ ap (λ (l : List ℕ). c .value (pre ++ (l ++ post)) (length pre)) (same-bytes a) ∙ c .back pre a post h;
+    forth = λ b o h w. same-bytes (value b o) ∙ ap (c .bytes) (same-value b o) ∙ c .forth b o (rw (← same-width) h) w ∙ ap (λ (n : ℕ). take n (drop o b)) (sym same-width);
   }
 
 module _ {A : Type 0} (c : Codec A) where

@@ -1,19 +1,35 @@
 -- What a writer laid down in a lent buffer.
---     over                  bytes in the place of a buffer's first, the rest as it was
+--     over, placed          bytes in the place of a buffer's first, the rest as it was; the same where they fit
 --     Laid                  what a writer knows between two parts
 --     laid-start, laid-put, laid-lend, laid-done     its start, one part more, a part by a writer that is lent the rest, its end
 use mathlib.Core.Path.{_≡_, refl, _∙_, sym, ap}
-use mathlib.Core.List.{List, [], _∷_, _++_, append-assoc, append-nil}
+use mathlib.Core.Bool.{cond}
+use mathlib.Core.List.{List, [], _++_, append-assoc, append-nil}
 use Prim.Native.Nat.{ℕ, suc, _+_, _-_, _≤_, _<_}
 use native.Mathlib.Omega.{arith}
 use native.Mathlib.Nat.{zero-add}
 use native.Mathlib.Numerals.{add-one}
+use lib.Dec.{leb}
+use borrow.Author.Tests.{le-leb, lt-leb}
 use lib.ListN.{getD, length, take, drop, set, length-append, length-take, length-drop, drop-of-length-le}
 use lib.Seq.{length-take-le, drop-cons, set-at, append-snoc, take-suc, take-all, take-append-seam, drop-drop, drop-append-add}
 
 -- w in the place of the first bytes of xs, the bytes behind as they were
 unfoldable pub over : List ℕ → List ℕ → List ℕ
 over w xs = w ++ drop (length w) xs
+
+-- w over the start of xs where it fits, and xs as it was where it does not
+unfoldable pub placed : List ℕ → List ℕ → List ℕ
+unfolding over
+placed w xs = cond (leb (length w) (length xs)) (over w xs) xs
+
+pub placed-fits : (w xs out : List ℕ) → length w ≤ length xs → out ≡ over w xs → out ≡ placed w xs
+unfolding placed
+placed-fits w xs out h e = rw (le-leb (length w) (length xs) h) e
+
+pub placed-short : (w xs out : List ℕ) → length xs < length w → out ≡ xs → out ≡ placed w xs
+unfolding placed
+placed-short w xs out h e = rw (lt-leb (length w) (length xs) h) e
 
 pub over-none : (xs : List ℕ) → over [] xs ≡ xs
 unfolding over

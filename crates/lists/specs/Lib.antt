@@ -9,4 +9,5 @@ pub mod Stride
 pub mod Rows
 pub mod Codec
 pub mod Laid
+pub mod Stores
 pub mod Best

@@ -1,9 +1,8 @@
 -- The offset of the i-th of equal parts behind a base. Callers use these laws and do not open the product.
-use Prim.Native.Nat.{ℕ, zero, suc, _+_, _*_, _<_, _≤_}
+use Prim.Native.Nat.{ℕ, suc, _+_, _*_, _<_, _≤_}
 use native.Mathlib.Nat.{mul-le-mul-right}
-use native.Mathlib.Numerals.{add-one}
 use native.Mathlib.Omega.{arith}
-use mathlib.Core.Path.{_≡_, refl}
+use mathlib.Core.Path.{_≡_}
 
 unfoldable pub at : ℕ → ℕ → ℕ → ℕ
 at base size i = base + i * size

@@ -1,7 +1,7 @@
 -- Tests: their connectives taken apart and put together, and the first row of a table that applies.
 -- Laws of `not`, `&&` and `||` alone are in mathlib.Core.Bool; from a comparison to its test and back in borrow.Author.Tests.
-use mathlib.Core.Path.{_≡_, refl, sym, ap, _∙_}
-use mathlib.Core.Bool.{Bool, true, false, cond, not, _&&_, _||_, false≢true, true≢false}
+use mathlib.Core.Path.{_≡_, refl, sym}
+use mathlib.Core.Bool.{Bool, true, false, cond, _&&_, _||_, false≢true, true≢false}
 use mathlib.Core.List.{List, [], _∷_}
 use mathlib.Core.Logic.{_⊎_, inl, inr}
 use Prim.Native.Nat.{ℕ, _≤_, _<_}

@@ -1,0 +1,60 @@
+-- The digits of a number, counted, and told by how few they are.
+use mathlib.Core.Path.{_≡_, refl, ap, _∙_}
+use mathlib.Core.Bool.{Bool, true, false}
+use mathlib.Core.List.{[], _∷_}
+use mathlib.Core.Logic.{⊎-elim}
+use Prim.Native.Nat.{ℕ, zero, suc, _+_, _-_, _/_, _%_, _^_, _≤_, _<_}
+use native.Mathlib.Nat.{pow-le-pow-right, zero-lt-suc}
+use native.Mathlib.Numerals.{add-one}
+use native.Mathlib.Omega.{arith}
+use lib.Dec.{leb}
+use lib.ListN.{length, length-append}
+use borrow.Author.Tests.{le-leb, lt-leb}
+use Rattle.io.specs.Digits.{digits, glyph, Fewest}
+use Rattle.lists.specs.First.{first-here, first-none}
+use Rattle.lists.specs.Test.{le-or-lt}
+use Rattle.numbers.specs.Decimal.{places, decimal}
+
+pub length-digits : (b k n : ℕ) → length (digits b k n) ≡ k
+length-digits b zero n = refl
+length-digits b (suc k) n = length-append (digits b k (n / b)) (glyph (n % b) ∷ []) ∙ ap (λ (m : ℕ). m + 1) (length-digits b k (n / b)) ∙ add-one k
+
+pub length-decimal : (n : ℕ) → length (decimal n) ≡ places n
+unfolding decimal
+length-decimal n = length-digits 10 (places n) n
+
+power : (i j : ℕ) → i ≤ j → 10 ^ i ≤ 10 ^ j
+power i j h = pow-le-pow-right (zero-lt-suc 9) h
+
+-- the fewest digits that hold a number are as many as `places` says
+pub fewest-places : (n k : ℕ) → n < 2 ^ 64 → Fewest 10 1 n k → k ≡ places n
+unfolding places
+fewest-places n k small f =
+    ⊎-elim
+    (λ (l : 19 ≤ k - 1). let e = long l in let z = first-none ok 19 (λ j m. below j (omega arith)) in omega arith)
+    (λ (l : k - 1 < 19). let z = first-here ok 19 (k - 1) l below at in omega arith)
+    (le-or-lt 19 (k - 1))
+  where
+    ok : ℕ → Bool
+    ok j = leb (10 ^ (j + 1)) n
+
+    below : (j : ℕ) → j < k - 1 → ok j ≡ true
+    below j h =
+        let few = f .2 (omega arith) in
+        let p = power (j + 1) (k - 1) (omega arith) in
+        le-leb (10 ^ (j + 1)) n (omega arith)
+
+    at : ok (k - 1) ≡ false
+    at =
+        let e : k - 1 + 1 ≡ k = let h = f .0 in omega arith in
+        lt-leb (10 ^ (k - 1 + 1)) n (rw e (f .1))
+
+    long : 19 ≤ k - 1 → k - 1 ≡ 19
+    long l = ⊎-elim
+        (λ (m : 20 ≤ k - 1). absurd (let few = f .2 (omega arith) in let p = power 20 (k - 1) m in omega arith))
+        (λ (m : k - 1 < 20). omega arith)
+        (le-or-lt 20 (k - 1))
+
+pub fewest-decimal : (n k : ℕ) → n < 2 ^ 64 → Fewest 10 1 n k → digits 10 k n ≡ decimal n
+unfolding decimal
+fewest-decimal n k small f = ap (λ (m : ℕ). digits 10 m n) (fewest-places n k small f)

@@ -1,0 +1,5 @@
+-- Numbers as a record holds them, and as a line of text does.
+pub mod BigEndian
+pub mod Codecs
+pub mod Decimal
+pub mod DecimalLaws

@@ -1,0 +1,3 @@
+-- What the suite promises.
+pub mod Determined
+pub mod Bench

@@ -1,0 +1,138 @@
+-- Routes and policies as bytes, as the code reads and stores them.
+--     zeros             a run of zero bytes, looked at and stored
+--     routes            its readers' and writers' ways
+--     policies          its readers' and writers' ways
+use mathlib.Core.Path.{_≡_, refl, sym}
+use mathlib.Core.Bool.{Bool, true, false, cond}
+use mathlib.Core.List.{List, [], _∷_, _++_}
+use Prim.Native.Nat.{ℕ, _+_, _-_, _≤_, _<_}
+use native.Mathlib.Omega.{arith}
+use lib.Dec.{eqb}
+use lib.ListN.{getD, replicate, set, length-replicate}
+use lib.Seq.{sets}
+use borrow.Author.Tests.{eq-eqb, ne-eqb}
+use Rattle.lists.specs.First.{Passed, passed-none, passed-more, every-yes, every-no}
+use Rattle.lists.specs.Rows.{laidRows}
+use Rattle.lists.specs.Stores.{stored-on}
+use Rattle.numbers.specs.BigEndian.{u16At, u16Bytes}
+use Rattle.routes.specs.Form.{zeros, fieldsAt, fieldsBytes, routeAt, routeBytes, routeFormed, policyAt, policyBytes, policyFormed}
+use Rattle.routes.specs.declared.Fields.{Fields}
+use Rattle.routes.specs.declared.Policy.{Policy}
+use Rattle.routes.specs.declared.Route.{Route}
+use Rattle.routes.specs.declared.Route.the-variants.{None, Held}
+
+-- what the loop over a run of zeros knows: the bytes before the i-th are zero
+unfoldable pub Zeroed : List ℕ → ℕ → ℕ → Type 0
+Zeroed b o i = Passed (λ k. eqb (getD b (o + k) 0) 0) i
+
+module _ (b : List ℕ) (o : ℕ) where
+  pub zeroed-start : Zeroed b o 0
+  unfolding Zeroed
+  zeroed-start = passed-none _
+
+  pub zeroed-next : (i : ℕ) → Zeroed b o i → getD b (o + i) 0 ≡ 0 → Zeroed b o (i + 1)
+  unfolding Zeroed
+  zeroed-next i h e = passed-more _ i h (eq-eqb _ _ e)
+
+  pub zeroed-not : (n i : ℕ) → i < n → Zeroed b o i → (getD b (o + i) 0 ≡ 0 → ⊥) → false ≡ zeros b o n
+  unfolding Zeroed Passed zeros
+  zeroed-not n i l h e = sym (every-no _ n i l h (ne-eqb _ _ e))
+
+  pub zeroed-end : (n i : ℕ) → n ≤ i → Zeroed b o i → true ≡ zeros b o n
+  unfolding Zeroed Passed zeros
+  zeroed-end n i l h = sym (every-yes _ n (λ k p. h k (omega arith)))
+
+pub ruleset zeroing = (zeroed-start, zeroed-next, zeroed-not, zeroed-end)
+
+-- the loop that stores a run of zeros, at its end
+pub zeros-put : (out out′ : List ℕ) (at n i : ℕ) → i ≤ n → n ≤ i → out′ ≡ sets out at (replicate i 0) → out′ ≡ sets out at (replicate n 0)
+zeros-put out out′ at n i h l e = let q : i ≡ n = omega arith in rw q at e
+
+-- routes
+module _ (w : ℕ) (b : List ℕ) (o : ℕ) where
+  pub formed-none : (t : Bool) → getD b o 0 ≡ 0 → t ≡ zeros b (o + 1) (w - 1) → t ≡ routeFormed w b o
+  unfolding routeFormed
+  formed-none t p e = rw p e
+
+  pub formed-held : (t : Bool) → getD b o 0 ≡ 1 → t ≡ zeros b (o + 1) (w - 9) → t ≡ routeFormed w b o
+  unfolding routeFormed
+  formed-held t p e = rw p e
+
+  pub formed-other : (getD b o 0 ≡ 0 → ⊥) → (getD b o 0 ≡ 1 → ⊥) → false ≡ routeFormed w b o
+  unfolding routeFormed
+  formed-other p q = rw (ne-eqb _ _ p, ne-eqb _ _ q)
+
+  pub route-none : getD b o 0 ≡ 0 → None ≡ routeAt w b o
+  unfolding routeAt
+  route-none p = rw p
+
+  pub route-held : (f : Fields) → (getD b o 0 ≡ 0 → ⊥) → f ≡ fieldsAt b (o + 1 + (w - 9)) → Held f ≡ routeAt w b o
+  unfolding routeAt
+  route-held f p e = rw (ne-eqb _ _ p, e)
+
+pub ruleset forming = (formed-none, formed-held, formed-other)
+
+pub ruleset reading = (route-none, route-held)
+
+pub fields-read : (b : List ℕ) (o preference cost origin tags : ℕ)
+    → preference ≡ u16At b o → cost ≡ u16At b (o + 2) → origin ≡ u16At b (o + 4) → tags ≡ u16At b (o + 6)
+    → record { preference = preference; cost = cost; origin = origin; tags = tags } ≡ fieldsAt b o
+unfolding fieldsAt
+fields-read b o _ _ _ _ e₁ e₂ e₃ e₄ = rw (e₁, e₂, e₃, e₄)
+
+module _ (out a b c d : List ℕ) (at n₁ n₂ n₃ n₄ : ℕ) where
+  pub four-put : a ≡ sets out at (u16Bytes n₁) → b ≡ sets a (at + 2) (u16Bytes n₂) → c ≡ sets b (at + 4) (u16Bytes n₃) → d ≡ sets c (at + 6) (u16Bytes n₄)
+      → d ≡ sets out at (laidRows u16Bytes (n₁ ∷ n₂ ∷ n₃ ∷ n₄ ∷ []))
+  unfolding u16Bytes
+  four-put e₁ e₂ e₃ e₄ =
+      stored-on out c d at (at + 6) (u16Bytes n₁ ++ (u16Bytes n₂ ++ u16Bytes n₃)) (u16Bytes n₄)
+      (stored-on out b c at (at + 4) (u16Bytes n₁ ++ u16Bytes n₂) (u16Bytes n₃)
+      (stored-on out a b at (at + 2) (u16Bytes n₁) (u16Bytes n₂) e₁ refl e₂) refl e₃) refl e₄
+
+module _ (w : ℕ) (out out′ : List ℕ) (at : ℕ) (r : Route) where
+  pub none-put : r ≡ None → out′ ≡ sets out at (replicate w 0) → out′ ≡ sets out at (routeBytes w r)
+  unfolding routeBytes
+  none-put e q = rw e q
+
+  pub held-put : (f : Fields) (a b : List ℕ) → r ≡ Held f → a ≡ sets out at (1 ∷ []) → b ≡ sets a (at + 1) (replicate (w - 9) 0)
+      → out′ ≡ sets b (at + 1 + (w - 9)) (laidRows u16Bytes (f .preference ∷ f .cost ∷ f .origin ∷ f .tags ∷ []))
+      → out′ ≡ sets out at (routeBytes w r)
+  unfolding routeBytes fieldsBytes
+  held-put f a b e p q s = rw e
+      (stored-on out b out′ at (at + 1 + (w - 9)) (1 ∷ replicate (w - 9) 0) _
+      (stored-on out a b at (at + 1) (1 ∷ []) (replicate (w - 9) 0) p refl q)
+      (omega (arith, length-replicate {A = ℕ} (w - 9) 0)) s)
+
+-- policies
+module _ (b : List ℕ) (o : ℕ) where
+  pub policy-unset : (v : ℕ) → getD b (o + 8) 0 ≡ 0 → v ≡ u16At b (o + 9) → eqb v 0 ≡ policyFormed b o
+  unfolding policyFormed
+  policy-unset v p e = rw (p, e)
+
+  pub policy-set : getD b (o + 8) 0 ≡ 1 → true ≡ policyFormed b o
+  unfolding policyFormed
+  policy-set p = rw p
+
+  pub policy-other : (getD b (o + 8) 0 ≡ 0 → ⊥) → (getD b (o + 8) 0 ≡ 1 → ⊥) → false ≡ policyFormed b o
+  unfolding policyFormed
+  policy-other p q = rw (ne-eqb _ _ p, ne-eqb _ _ q)
+
+  pub policy-read : (need bar clear set preference added : ℕ)
+      → need ≡ u16At b o → bar ≡ u16At b (o + 2) → clear ≡ u16At b (o + 4) → set ≡ u16At b (o + 6) → preference ≡ u16At b (o + 9) → added ≡ u16At b (o + 11)
+      → record { need = need; bar = bar; clear = clear; set = set; flag = eqb (getD b (o + 8) 0) 1; preference = preference; added = added } ≡ policyAt b o
+  unfolding policyAt
+  policy-read _ _ _ _ _ _ e₁ e₂ e₃ e₄ e₅ e₆ = rw (e₁, e₂, e₃, e₄, e₅, e₆)
+
+pub ruleset policies = (policy-unset, policy-set, policy-other)
+
+pub policy-put : (out a b c d : List ℕ) (at v : ℕ) (p : Policy) → v ≡ cond (p .flag) 1 0
+    → a ≡ sets out at (laidRows u16Bytes (p .need ∷ p .bar ∷ p .clear ∷ p .set ∷ [])) → b ≡ sets a (at + 8) (v ∷ [])
+    → c ≡ sets b (at + 9) (u16Bytes (p .preference)) → d ≡ sets c (at + 11) (u16Bytes (p .added))
+    → d ≡ sets out at (policyBytes p)
+unfolding policyBytes u16Bytes
+policy-put out a b c d at v p f e₁ e₂ e₃ e₄ =
+    let masks = laidRows u16Bytes (p .need ∷ p .bar ∷ p .clear ∷ p .set ∷ []) in
+    rw (← f)
+    (stored-on out c d at (at + 11) (masks ++ (v ∷ u16Bytes (p .preference))) (u16Bytes (p .added))
+    (stored-on out b c at (at + 9) (masks ++ (v ∷ [])) (u16Bytes (p .preference))
+    (stored-on out a b at (at + 8) masks (v ∷ []) e₁ refl e₂) refl e₃) refl e₄)

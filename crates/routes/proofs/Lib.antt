@@ -1,0 +1,4 @@
+pub mod OrderLaws
+pub mod WireLaws
+pub mod MetLaws
+pub mod FormLaws

@@ -1,0 +1,10 @@
+-- Routes: which of two is better, what a wire makes of one, whether a demand is met, and how a record holds them.
+pub mod Order
+pub mod Carry
+pub mod Demand
+pub mod Form
+pub mod OrderLaws
+pub mod CarryLaws
+pub mod TagLaws
+pub mod RouteCodec
+pub mod PolicyCodec

@@ -1,0 +1,135 @@
+-- A policy written and read back, and read and written back: its codec.
+-- The bytes that it takes for formed are those that `policyFormed` accepts.
+use mathlib.Core.Path.{_≡_, refl, sym, _∙_}
+use mathlib.Core.Bool.{Bool, true, false, cond, false≢true}
+use mathlib.Core.List.{List}
+use Prim.Native.Nat.{ℕ, _+_, _<_}
+use native.Mathlib.Omega.{arith}
+use lib.Dec.{eqb}
+use lib.ListN.{getD}
+use borrow.Author.Tests.{eqb-true}
+use Rattle.lists.specs.Codec.{Codec, byte, pair, named, restated, Bytes}
+use Rattle.numbers.specs.BigEndian.{u16At, u16Bytes}
+use Rattle.numbers.specs.Codecs.{u16, u16-below}
+use Rattle.routes.specs.Form.{policyAt, policyBytes, policyFormed}
+use Rattle.routes.specs.declared.Policy.{Policy}
+
+-- a policy: seven numbers, the flag a byte of 0 or 1
+abbrev pub PolicyFits : Policy → Type 0
+PolicyFits p =
+    (p .need < 65536) × (p .bar < 65536) × (p .clear < 65536) × (p .set < 65536) × (p .flag ≡ false → p .preference ≡ 0) × (p .preference < 65536) × (p .added < 65536)
+
+abbrev pub Seven : Type 0
+Seven = ℕ × (ℕ × (ℕ × (ℕ × (ℕ × (ℕ × ℕ)))))
+
+abbrev pub seven : Codec Seven
+seven = pair u16 (pair u16 (pair u16 (pair u16 (pair byte (pair u16 u16)))))
+
+abbrev pub toPolicy : Seven → Policy
+toPolicy x = record {
+  need = x .0;
+  bar = x .1 .0;
+  clear = x .1 .1 .0;
+  set = x .1 .1 .1 .0;
+  flag = eqb (x .1 .1 .1 .1 .0) 1;
+  preference = x .1 .1 .1 .1 .1 .0;
+  added = x .1 .1 .1 .1 .1 .1;
+}
+
+abbrev pub ofPolicy : Policy → Seven
+ofPolicy p = (p .need, (p .bar, (p .clear, (p .set, (cond (p .flag) 1 0, (p .preference, p .added))))))
+
+flag-small : (t : Bool) → cond t 1 0 < 256
+flag-small true = omega arith
+flag-small false = omega arith
+
+flag-there : (t : Bool) → eqb (cond t 1 0) 1 ≡ t
+flag-there true = refl
+flag-there false = refl
+
+pub policy-fits : (p : Policy) → PolicyFits p → seven .Fits (ofPolicy p)
+policy-fits p h = (h .0, (h .1, (h .2, (h .3, (flag-small (p .flag), (h .5, h .6))))))
+
+pub policy-there : (p : Policy) → PolicyFits p → toPolicy (ofPolicy p) ≡ p
+policy-there p h = λ i. record {
+  need = p .need;
+  bar = p .bar;
+  clear = p .clear;
+  set = p .set;
+  flag = flag-there (p .flag) i;
+  preference = p .preference;
+  added = p .added;
+}
+
+abbrev pub PolicyFormed : List ℕ → ℕ → Type 0
+PolicyFormed b o = Bytes b × (policyFormed b o ≡ true)
+
+pub policy-formed : (b : List ℕ) (o : ℕ) → PolicyFormed b o → seven .Formed b o
+policy-formed b o h =
+    let z = h .0 in (
+      (z o, z (o + 1)),
+      (
+        (z (o + 2), z (o + 2 + 1)),
+        (
+          (z (o + 2 + 2), z (o + 2 + 2 + 1)),
+          (
+            (z (o + 2 + 2 + 2), z (o + 2 + 2 + 2 + 1)),
+            (tt, ((z (o + 2 + 2 + 2 + 2 + 1), z (o + 2 + 2 + 2 + 2 + 1 + 1)), (z (o + 2 + 2 + 2 + 2 + 1 + 2), z (o + 2 + 2 + 2 + 2 + 1 + 2 + 1)))),
+          ),
+        ),
+      ),
+    )
+
+-- the flag's byte
+pub flag-byte : (b : List ℕ) (o : ℕ) → policyFormed b o ≡ true → cond (eqb (getD b (o + 8) 0) 1) 1 0 ≡ getD b (o + 8) 0
+unfolding policyFormed
+flag-byte b o = go (eqb (getD b (o + 8) 0) 0) refl
+  where
+    go : (t : Bool) → eqb (getD b (o + 8) 0) 0 ≡ t → cond t (eqb (u16At b (o + 9)) 0) (eqb (getD b (o + 8) 0) 1) ≡ true → cond (eqb (getD b (o + 8) 0) 1) 1 0 ≡ getD b (o + 8) 0
+    go true q e = rw (eqb-true (getD b (o + 8) 0) 0 q) refl
+    go false q e = rw (eqb-true (getD b (o + 8) 0) 1 e) refl
+
+pub policy-here : (b : List ℕ) (o : ℕ) → PolicyFormed b o → ofPolicy (toPolicy (seven .value b o)) ≡ seven .value b o
+policy-here b o h =
+    let v = seven .value b o in
+    let eight : o + 8 ≡ o + 2 + 2 + 2 + 2 = omega arith in
+    let flag : cond (eqb (v .1 .1 .1 .1 .0) 1) 1 0 ≡ v .1 .1 .1 .1 .0 = rw eight at (flag-byte b o (h .1)) in
+    λ i. (v .0, (v .1 .0, (v .1 .1 .0, (v .1 .1 .1 .0, (flag i, (v .1 .1 .1 .1 .1 .0, v .1 .1 .1 .1 .1 .1))))))
+
+abbrev pub policy-parts : Codec Policy
+policy-parts = named seven toPolicy ofPolicy PolicyFits PolicyFormed policy-fits policy-there policy-formed policy-here
+
+pub policy-bytes : (p : Policy) → policyBytes p ≡ policy-parts .bytes p
+unfolding policyBytes u16Bytes
+policy-bytes p = refl
+
+pub policy-value : (b : List ℕ) (o : ℕ) → policyAt b o ≡ policy-parts .value b o
+unfolding policyAt
+policy-value b o =
+    let four : o + 4 ≡ o + 2 + 2 = omega arith in
+    let six : o + 6 ≡ o + 2 + 2 + 2 = omega arith in
+    let eight : o + 8 ≡ o + 2 + 2 + 2 + 2 = omega arith in
+    let nine : o + 9 ≡ o + 2 + 2 + 2 + 2 + 1 = omega arith in
+    let eleven : o + 11 ≡ o + 2 + 2 + 2 + 2 + 1 + 2 = omega arith in
+    rw (four, six, eight, nine, eleven)
+
+-- A policy of 13 bytes, both ways.
+abbrev pub policy : Codec Policy
+policy = restated policy-parts 13 policyBytes policyAt refl policy-bytes policy-value
+
+-- What is read from formed bytes can be written: a flag of 0 leaves preference 0.
+pub policy-read-fits : (b : List ℕ) (o : ℕ) → PolicyFormed b o → PolicyFits (policyAt b o)
+unfolding policyAt policyFormed
+policy-read-fits b o h =
+    let z = h .0 in
+    (below o z, below (o + 2) z, below (o + 4) z, below (o + 6) z, unset, below (o + 9) z, below (o + 11) z)
+  where
+    below : (k : ℕ) → Bytes b → u16At b k < 65536
+    below k z = u16-below b k (z k, z (k + 1))
+
+    unset : eqb (getD b (o + 8) 0) 1 ≡ false → u16At b (o + 9) ≡ 0
+    unset = go (eqb (getD b (o + 8) 0) 0) (h .1)
+      where
+        go : (t : Bool) → cond t (eqb (u16At b (o + 9)) 0) (eqb (getD b (o + 8) 0) 1) ≡ true → eqb (getD b (o + 8) 0) 1 ≡ false → u16At b (o + 9) ≡ 0
+        go true e q = eqb-true _ _ e
+        go false e q = absurd (false≢true (sym q ∙ e))

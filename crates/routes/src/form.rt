@@ -1,0 +1,155 @@
+// A route and a policy as a record's bytes, over the width of a route.
+ghost use mathlib.Core.Path.{_≡_};
+ghost use Prim.Native.Nat.{_+_, _≤_};
+ghost use mathlib.Core.Bool.{cond};
+ghost use lib.ListN.{length, replicate};
+ghost use lib.Seq.{sets};
+ghost use mathlib.Core.List.{[], _∷_};
+ghost use Rattle.lists.specs.Rows.{laidRows};
+ghost use Rattle.numbers.specs.BigEndian.{u16Bytes};
+ghost use Rattle.routes.specs.Form.{zeros, fieldsAt, routeAt, routeBytes, routeFormed, policyAt, policyBytes, policyFormed};
+use crate::Fields;
+use crate::Policy;
+use crate::Route;
+use numbers::put_u8;
+use numbers::put_u16;
+use numbers::u16_at;
+
+// Whether the n bytes of b at an offset are zero.
+fn all_zero(b: &[u8], at: usize, n: usize) -> bool
+    requires { ⌜ at + n ≤ length (now b) ⌝ }
+    ensures { λ r. ⌜ r ≡ zeros (now (b .entry)) at n ⌝ }
+{
+    let mut i = 0;
+    while i < n {
+        if b[at + i] != 0 {
+            return false;
+        }
+        i += 1;
+    }
+    true
+}
+
+// Whether the width bytes of b at an offset are a route: a zero present byte has only zeros behind it.
+pub fn route_formed(width: usize, b: &[u8], at: usize) -> bool
+    requires { ⌜ (9 ≤ width) × (at + width ≤ length (now b)) ⌝ }
+    ensures { λ r. ⌜ r ≡ routeFormed width (now (b .entry)) at ⌝ }
+{
+    match b[at] {
+        0 => all_zero(b, at + 1, width - 1),
+        1 => all_zero(b, at + 1, width - 9),
+        _ => false,
+    }
+}
+
+fn fields_at(b: &[u8], at: usize) -> Fields
+    requires { ⌜ at + 8 ≤ length (now b) ⌝ }
+    ensures { λ r. ⌜ r ≡ fieldsAt (now (b .entry)) at ⌝ }
+{
+    Fields {
+        preference: u16_at(b, at),
+        cost: u16_at(b, at + 2),
+        origin: u16_at(b, at + 4),
+        tags: u16_at(b, at + 6),
+    }
+}
+
+// The route of the width bytes of b at an offset.
+pub fn route_at(width: usize, b: &[u8], at: usize) -> Route
+    requires { ⌜ (9 ≤ width) × (at + width ≤ length (now b)) ⌝ }
+    ensures { λ r. ⌜ r ≡ routeAt width (now (b .entry)) at ⌝ }
+{
+    match b[at] {
+        0 => Route::None,
+        _ => Route::Held(fields_at(b, at + 1 + (width - 9))),
+    }
+}
+
+// Stores n zero bytes of out at an offset. The other bytes keep their values.
+fn put_zeros(out: &mut [u8], at: usize, n: usize)
+    requires { ⌜ at + n ≤ length (now out) ⌝ }
+    ensures { λ _. ⌜ now (out .exit) ≡ sets (now (out .entry)) at (replicate n 0) ⌝ }
+{
+    let mut i = 0;
+    while i < n {
+        out[at + i] = 0;
+        i += 1;
+    }
+}
+
+// Stores four numbers as eight bytes of out at an offset. The other bytes keep their values.
+fn put_four(out: &mut [u8], at: usize, first: u16, second: u16, third: u16, fourth: u16)
+    requires { ⌜ at + 8 ≤ length (now out) ⌝ }
+    ensures { λ _. ⌜ now (out .exit) ≡ sets (now (out .entry)) at (laidRows u16Bytes (first ∷ second ∷ third ∷ fourth ∷ [])) ⌝ }
+{
+    put_u16(out, at, first);
+    put_u16(out, at + 2, second);
+    put_u16(out, at + 4, third);
+    put_u16(out, at + 6, fourth);
+}
+
+// Stores a route as width bytes of out at an offset. The other bytes keep their values.
+pub fn put_route(width: usize, out: &mut [u8], at: usize, route: Route)
+    requires { ⌜ (9 ≤ width) × (at + width ≤ length (now out)) ⌝ }
+    ensures { λ _. ⌜ now (out .exit) ≡ sets (now (out .entry)) at (routeBytes width route) ⌝ }
+{
+    let Route::Held(f) = route else {
+        put_zeros(out, at, width);
+        return;
+    };
+    put_u8(out, at, 1);
+    put_zeros(out, at + 1, width - 9);
+    put_four(
+        out,
+        at + 1 + (width - 9),
+        f.preference,
+        f.cost,
+        f.origin,
+        f.tags,
+    );
+}
+
+// Whether the 13 bytes of b at an offset are a policy: the flag is 0 or 1, and a flag of 0 has preference 0.
+pub fn policy_formed(b: &[u8], at: usize) -> bool
+    requires { ⌜ at + 13 ≤ length (now b) ⌝ }
+    ensures { λ r. ⌜ r ≡ policyFormed (now (b .entry)) at ⌝ }
+{
+    match b[at + 8] {
+        0 => u16_at(b, at + 9) == 0,
+        1 => true,
+        _ => false,
+    }
+}
+
+// The policy of the 13 bytes of b at an offset.
+pub fn policy_at(b: &[u8], at: usize) -> Policy
+    requires { ⌜ at + 13 ≤ length (now b) ⌝ }
+    ensures { λ r. ⌜ r ≡ policyAt (now (b .entry)) at ⌝ }
+{
+    Policy {
+        need: u16_at(b, at),
+        bar: u16_at(b, at + 2),
+        clear: u16_at(b, at + 4),
+        set: u16_at(b, at + 6),
+        flag: b[at + 8] == 1,
+        preference: u16_at(b, at + 9),
+        added: u16_at(b, at + 11),
+    }
+}
+
+fn flag_byte(flag: bool) -> u8
+    ensures { λ r. ⌜ r ≡ cond flag 1 0 ⌝ }
+{
+    if flag { 1 } else { 0 }
+}
+
+// Stores a policy as 13 bytes of out at an offset. The other bytes keep their values.
+pub fn put_policy(out: &mut [u8], at: usize, policy: Policy)
+    requires { ⌜ at + 13 ≤ length (now out) ⌝ }
+    ensures { λ _. ⌜ now (out .exit) ≡ sets (now (out .entry)) at (policyBytes policy) ⌝ }
+{
+    put_four(out, at, policy.need, policy.bar, policy.clear, policy.set);
+    put_u8(out, at + 8, flag_byte(policy.flag));
+    put_u16(out, at + 9, policy.preference);
+    put_u16(out, at + 11, policy.added);
+}
