@@ -8,13 +8,13 @@ use Prim.Native.Nat.{ℕ}
 use lib.Dec.{eqb}
 use Rattle.lists.specs.All.{All, all-map, all-both, any}
 use Rattle.networks.specs.Algebra.{Algebra}
-use Rattle.networks.specs.Network.{Own, Network, own-boxes}
+use Rattle.networks.specs.Network.{Own, Network, ownBoxes}
 use Rattle.networks.specs.Sound.{Bounds, Sound}
 use Rattle.networks.specs.Sheets.{Sheet, RouteList, number, note, listed}
-use Rattle.networks.specs.Answer.{given, is-some, Entered}
+use Rattle.networks.specs.Answer.{given, isSome, Entered}
 use Rattle.networks.specs.Solution.{mapping, Solution, Demands}
 use Rattle.networks.specs.Judge.{held, Passes}
-use Rattle.networks.specs.Cut.{promised, leaves, fragment-of, fragment, numbered, Agrees, cut, Cuts}
+use Rattle.networks.specs.Cut.{promised, leaves, fragmentOf, fragment, numbered, Agrees, cut, Cuts}
 use Rattle.networks.proofs.Laws.Pieces.{pieces-rise}
 use Rattle.networks.proofs.Laws.Formed.{Formed, is-some-true, sound-formed, fragment-formed}
 use Rattle.networks.proofs.Laws.Cutting.{Fits, cut-answer, cut-given, cuts-fits}
@@ -45,8 +45,8 @@ module _ (𝓐 : Algebra) (B : Bounds) (N : Network (𝓐 .Route) (𝓐 .Policy)
   formed-in k = fragment-formed N S formed (λ (n : ℕ). eqb n k) (fits .entered)
 
   -- a listed route, where there is an entry
-  held-listed : All (λ (b : Own Route Demand). listed L (b .id) ≡ some (held 𝓐 L (b .id))) (own-boxes N)
-  held-listed = all-map (own-boxes N) (λ b t. let f = is-some-true (listed L (b .id)) t in rw (f .1) refl) entered
+  held-listed : All (λ (b : Own Route Demand). listed L (b .id) ≡ some (held 𝓐 L (b .id))) (ownBoxes N)
+  held-listed = all-map (ownBoxes N) (λ b t. let f = is-some-true (listed L (b .id)) t in rw (f .1) refl) entered
 
   -- from the fragments to the whole
   module _ (parts : (k : ℕ) → Passes 𝓐 (fragment N S k) L) where
@@ -54,51 +54,51 @@ module _ (𝓐 : Algebra) (B : Bounds) (N : Network (𝓐 .Route) (𝓐 .Policy)
     solved k = (passes-solved 𝓐 (fragment N S k) L (formed-in k .rise)) .0 (parts k)
 
     whole-agrees : Agrees N S (listed L)
-    whole-agrees = all-map (own-boxes N)
+    whole-agrees = all-map (ownBoxes N)
         (λ b f t. f .0 ∙ promised-note (held 𝓐 L (b .id)) (b .promise) (note S (b .id)) (leaves N S (b .id)) t (f .1 .0) (f .1 .1 .0 t) (f .1 .1 .1))
-        (all-both _ _ (own-boxes N) held-listed (all-both _ _ (own-boxes N) (fits .entered) (all-both _ _ (own-boxes N) (fits .notes) promises)))
+        (all-both _ _ (ownBoxes N) held-listed (all-both _ _ (ownBoxes N) (fits .entered) (all-both _ _ (ownBoxes N) (fits .notes) promises)))
       where
-        promises : All (λ (b : Own Route Demand). (q : Route) → promised (b .promise) (leaves N S (b .id)) (note S (b .id)) ≡ some q → held 𝓐 L (b .id) ≡ q) (own-boxes N)
+        promises : All (λ (b : Own Route Demand). (q : Route) → promised (b .promise) (leaves N S (b .id)) (note S (b .id)) ≡ some q → held 𝓐 L (b .id) ≡ q) (ownBoxes N)
         promises = everywhere N S (λ (k : ℕ) (b : Own Route Demand). (q : Route) → b .promise ≡ some q → held 𝓐 L (b .id) ≡ q)
-            (λ k. all-map (own-boxes (fragment N S k)) (λ b f q e. sym (f .0) ∙ f .1 q e) (all-both _ _ (own-boxes (fragment N S k)) (own-held 𝓐 (fragment N S k) L (formed-in k .rise)) (solved k .1 .equation-8)))
+            (λ k. all-map (ownBoxes (fragment N S k)) (λ b f q e. sym (f .0) ∙ f .1 q e) (all-both _ _ (ownBoxes (fragment N S k)) (own-held 𝓐 (fragment N S k) L (formed-in k .rise)) (solved k .1 .equation-8)))
 
     whole-passes : Passes 𝓐 N L
     whole-passes = (passes-solved 𝓐 N L (formed .rise)) .1 (
       entered,
       whole-solved 𝓐 N S (mapping 𝓐 N L) (sound .inputs-used)
           (λ k. solution-ext 𝓐 (fragment N S k) (formed-in k) (mapping 𝓐 (fragment N S k) L) (mapping 𝓐 N L) (kept-mapping 𝓐 N S L k formed whole-agrees) (solved k .1)),
-      all-map (own-boxes N) (λ b f. rw (f .0) (f .1)) (all-both _ _ (own-boxes N) (own-held 𝓐 N L (formed .rise)) demands),
+      all-map (ownBoxes N) (λ b f. rw (f .0) (f .1)) (all-both _ _ (ownBoxes N) (own-held 𝓐 N L (formed .rise)) demands),
     )
       where
-        demands : All (λ (b : Own Route Demand). meets (b .demand) (held 𝓐 L (b .id)) ≡ true) (own-boxes N)
+        demands : All (λ (b : Own Route Demand). meets (b .demand) (held 𝓐 L (b .id)) ≡ true) (ownBoxes N)
         demands = everywhere N S (λ (k : ℕ) (b : Own Route Demand). meets (b .demand) (held 𝓐 L (b .id)) ≡ true)
-            (λ k. all-map (own-boxes (fragment N S k)) (λ b f. rw (f .0) at (f .1)) (all-both _ _ (own-boxes (fragment N S k)) (own-held 𝓐 (fragment N S k) L (formed-in k .rise)) (solved k .2)))
+            (λ k. all-map (ownBoxes (fragment N S k)) (λ b f. rw (f .0) at (f .1)) (all-both _ _ (ownBoxes (fragment N S k)) (own-held 𝓐 (fragment N S k) L (formed-in k .rise)) (solved k .2)))
 
   -- and back
   part-passes : Passes 𝓐 N L → Agrees N S (listed L) → (k : ℕ) → Passes 𝓐 (fragment N S k) L
   part-passes passes agrees k = (passes-solved 𝓐 (fragment N S k) L (formed-in k .rise)) .1 (
-    anywhere N S (λ (m : ℕ) (b : Own Route Demand). is-some (listed L (b .id)) ≡ true) entered k,
+    anywhere N S (λ (m : ℕ) (b : Own Route Demand). isSome (listed L (b .id)) ≡ true) entered k,
     solution-ext 𝓐 (fragment N S k) (formed-in k) (mapping 𝓐 N L) (mapping 𝓐 (fragment N S k) L) (λ i t. sym (kept-mapping 𝓐 N S L k formed agrees i t))
         (fragment-solved 𝓐 N S (mapping 𝓐 N L) formed (solved .1) mapped-agrees k),
-    all-map (own-boxes (fragment N S k)) (λ b f. rw (f .0) (f .1)) (all-both _ _ (own-boxes (fragment N S k)) (own-held 𝓐 (fragment N S k) L (formed-in k .rise)) demands),
+    all-map (ownBoxes (fragment N S k)) (λ b f. rw (f .0) (f .1)) (all-both _ _ (ownBoxes (fragment N S k)) (own-held 𝓐 (fragment N S k) L (formed-in k .rise)) demands),
   )
     where
       solved : Entered N (listed L) × Solution 𝓐 N (mapping 𝓐 N L) × Demands 𝓐 N (mapping 𝓐 N L)
       solved = (passes-solved 𝓐 N L (formed .rise)) .0 passes
 
       mapped-agrees : Agrees N S (λ (i : ℕ). some (mapping 𝓐 N L i))
-      mapped-agrees = all-map (own-boxes N) (λ b f t. ap some (f .0) ∙ sym (f .1 .0) ∙ f .1 .1 t)
-          (all-both _ _ (own-boxes N) (own-held 𝓐 N L (formed .rise)) (all-both _ _ (own-boxes N) held-listed agrees))
+      mapped-agrees = all-map (ownBoxes N) (λ b f t. ap some (f .0) ∙ sym (f .1 .0) ∙ f .1 .1 t)
+          (all-both _ _ (ownBoxes N) (own-held 𝓐 N L (formed .rise)) (all-both _ _ (ownBoxes N) held-listed agrees))
 
-      demands : All (λ (b : Own Route Demand). meets (b .demand) (held 𝓐 L (b .id)) ≡ true) (own-boxes (fragment N S k))
+      demands : All (λ (b : Own Route Demand). meets (b .demand) (held 𝓐 L (b .id)) ≡ true) (ownBoxes (fragment N S k))
       demands = anywhere N S (λ (m : ℕ) (b : Own Route Demand). meets (b .demand) (held 𝓐 L (b .id)) ≡ true)
-          (all-map (own-boxes N) (λ b f. rw (f .0) at (f .1)) (all-both _ _ (own-boxes N) (own-held 𝓐 N L (formed .rise)) (solved .2))) k
+          (all-map (ownBoxes N) (λ b f. rw (f .0) at (f .1)) (all-both _ _ (ownBoxes N) (own-held 𝓐 N L (formed .rise)) (solved .2))) k
 
   -- every fragment that the cutter gives, and every fragment
   every-part : ((k : ℕ) (F : Network Route Policy Demand) → cut 𝓐 N S k ≡ given F → Passes 𝓐 F L) → (k : ℕ) → Passes 𝓐 (fragment N S k) L
-  every-part h k = go (any (numbered N S k) (own-boxes N)) refl
+  every-part h k = go (any (numbered N S k) (ownBoxes N)) refl
     where
-      go : (t : Bool) → any (numbered N S k) (own-boxes N) ≡ t → Passes 𝓐 (fragment N S k) L
+      go : (t : Bool) → any (numbered N S k) (ownBoxes N) ≡ t → Passes 𝓐 (fragment N S k) L
       go true q = h k (fragment N S k) (cut-answer 𝓐 N S fits k ∙ rw q refl)
       go false q = empty-passes 𝓐 N S L k q
 

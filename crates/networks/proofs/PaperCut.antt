@@ -10,13 +10,13 @@ use Rattle.lists.specs.All.{All, all-map, all-of, all-both, any, any-congr, any
 use Rattle.lists.specs.Filter.{any-filter}
 use Rattle.lists.specs.Sorted.{find-key}
 use Rattle.networks.specs.Algebra.{Algebra}
-use Rattle.networks.specs.Network.{Own, Input, Box, own, input, Wire, Network, box-id, is-box, is-own, own-boxes, box, has-box, owns}
+use Rattle.networks.specs.Network.{Own, Input, Box, own, input, Wire, Network, boxId, isBox, isOwn, ownBoxes, box, hasBox, owns}
 use Rattle.networks.specs.Sound.{Bounds, Sound, Joined}
 use Rattle.networks.specs.Sheets.{Sheet, number, note}
-use Rattle.networks.specs.Answer.{is-some, Entered}
+use Rattle.networks.specs.Answer.{isSome, Entered}
 use Rattle.networks.specs.Solution.{trans}
-use Rattle.networks.specs.Cut.{promised, assuming, is-cut, leaves, feeds, promising, piece, fragment-of, fragment, Cuts}
-use Rattle.networks.specs.Paper.{initial-of, assumed-of, promise-of, init, ass, guar, V-in, V-out, E, W, wired-into, cut-into, V-in-k, V-out-k, V-k, E-k, ass-k, guar-k, AgreesWithPaper}
+use Rattle.networks.specs.Cut.{promised, assuming, isCut, leaves, feeds, promising, piece, fragmentOf, fragment, Cuts}
+use Rattle.networks.specs.Paper.{initialOf, assumedOf, promiseOf, init, ass, guar, V-in, V-out, E, W, wiredInto, cutInto, V-in-k, V-out-k, V-k, E-k, ass-k, guar-k, AgreesWithPaper}
 use Rattle.networks.proofs.Laws.Boxes.{own-found}
 use Rattle.networks.proofs.Laws.Pieces.{box-piece}
 use Rattle.networks.proofs.Laws.Formed.{Formed, is-some-true, sound-formed, fragment-formed}
@@ -30,8 +30,8 @@ by-box {R} {P} {D} N Q f g h i = go (box N i) refl
   where
     go : (o : Option (Box R D)) → box N i ≡ o → Q i
     go none q = f i q
-    go (some (input a)) q = let e = find-key box-id i (N .boxes) (input a) q in subst Q e (g a (subst (λ (j : ℕ). box N j ≡ some (input a)) (sym e) q))
-    go (some (own b)) q = let e = find-key box-id i (N .boxes) (own b) q in subst Q e (h b (subst (λ (j : ℕ). box N j ≡ some (own b)) (sym e) q))
+    go (some (input a)) q = let e = find-key boxId i (N .boxes) (input a) q in subst Q e (g a (subst (λ (j : ℕ). box N j ≡ some (input a)) (sym e) q))
+    go (some (own b)) q = let e = find-key boxId i (N .boxes) (own b) q in subst Q e (h b (subst (λ (j : ℕ). box N j ≡ some (own b)) (sym e) q))
 
 module _ {R P D : Type 0} (N : Network R P D) (S : Sheet R) (k : ℕ) (formed : Formed N) (entered : Entered N (note S)) where
   abbrev κ : ℕ → Bool
@@ -41,51 +41,50 @@ module _ {R P D : Type 0} (N : Network R P D) (S : Sheet R) (k : ℕ) (formed : 
   F = fragment N S k
 
   -- every wire leads to an own box
-  into-feeds : (u : ℕ) → wired-into N S k u ≡ feeds N S κ u
+  into-feeds : (u : ℕ) → wiredInto N S k u ≡ feeds N S κ u
   unfolding feeds
   into-feeds u = any-congr _ _ (N .wires) (all-map (N .wires) (λ w h. rw (h .to-own) refl) (formed .joined))
 
-  no-cut-into : (u : ℕ) → owns N u ≡ false → cut-into N S k u ≡ false
+  no-cut-into : (u : ℕ) → owns N u ≡ false → cutInto N S k u ≡ false
   no-cut-into u f = false-any _ (N .wires) (all-map (N .wires) at (formed .joined))
     where
-      at : (w : Wire) → Joined N w → eqb (w .from) u && (is-cut N S w && W N S k (w .to)) ≡ false
+      at : (w : Wire) → Joined N w → eqb (w .from) u && (isCut N S w && W N S k (w .to)) ≡ false
       at w h = rw (h .to-own) (go (eqb (w .from) u) refl)
         where
           go : (t : Bool) → eqb (w .from) u ≡ t → t && ((owns N (w .from) && not (eqb (number S (w .to)) (number S (w .from)))) && κ (number S (w .to))) ≡ false
           go false q = refl
           go true q = rw (eqb-true (w .from) u q, f) refl
 
-  cut-feeds : (u : ℕ) → owns N u ≡ true → cut-into N S k u ≡ not (κ (number S u)) && feeds N S κ u
+  cut-feeds : (u : ℕ) → owns N u ≡ true → cutInto N S k u ≡ not (κ (number S u)) && feeds N S κ u
   unfolding feeds
   cut-feeds u t = same-test _ _ forth back
     where
-      parts : (w : Wire) → eqb (w .from) u && (is-cut N S w && W N S k (w .to)) ≡ true
+      parts : (w : Wire) → eqb (w .from) u && (isCut N S w && W N S k (w .to)) ≡ true
           → (w .from ≡ u) × (not (eqb (number S (w .to)) (number S (w .from))) ≡ true) × (κ (number S (w .to)) ≡ true)
       parts w e =
-          let i = and-r (eqb (w .from) u) (is-cut N S w && W N S k (w .to)) e in
-          let c = and-l (is-cut N S w) (W N S k (w .to)) i in
-          (
-            eqb-true (w .from) u (and-l (eqb (w .from) u) (is-cut N S w && W N S k (w .to)) e),
+          let i = and-r (eqb (w .from) u) (isCut N S w && W N S k (w .to)) e in
+          let c = and-l (isCut N S w) (W N S k (w .to)) i in (
+            eqb-true (w .from) u (and-l (eqb (w .from) u) (isCut N S w && W N S k (w .to)) e),
             and-r (owns N (w .from)) _ (and-r (owns N (w .to)) _ c),
-            and-r (owns N (w .to)) _ (and-r (is-cut N S w) (W N S k (w .to)) i),
+            and-r (owns N (w .to)) _ (and-r (isCut N S w) (W N S k (w .to)) i),
           )
 
-      forth : cut-into N S k u ≡ true → not (κ (number S u)) && any (λ (w : Wire). eqb (w .from) u && κ (number S (w .to))) (N .wires) ≡ true
+      forth : cutInto N S k u ≡ true → not (κ (number S u)) && any (λ (w : Wire). eqb (w .from) u && κ (number S (w .to))) (N .wires) ≡ true
       forth e =
-          let f = any-found (λ (w : Wire). eqb (w .from) u && (is-cut N S w && W N S k (w .to))) (N .wires) (formed .joined) e in
+          let f = any-found (λ (w : Wire). eqb (w .from) u && (isCut N S w && W N S k (w .to))) (N .wires) (formed .joined) e in
           let w = f .0 in
           let g = parts w (f .2) in
           and-i _ _
           (ap not (ne-eqb (number S u) k (λ q. eqb-false (number S (w .to)) (number S (w .from)) (not-true _ (g .1)) (eqb-true (number S (w .to)) k (g .2) ∙ sym q ∙ ap (number S) (sym (g .0))))))
           (any-mono _ _ (N .wires) (all-of (N .wires) (λ v h. let p = parts v h in and-i _ _ (eq-eqb (v .from) u (p .0)) (p .2))) e)
 
-      back : not (κ (number S u)) && any (λ (w : Wire). eqb (w .from) u && κ (number S (w .to))) (N .wires) ≡ true → cut-into N S k u ≡ true
+      back : not (κ (number S u)) && any (λ (w : Wire). eqb (w .from) u && κ (number S (w .to))) (N .wires) ≡ true → cutInto N S k u ≡ true
       back e = any-mono _ _ (N .wires) (all-map (N .wires) at (formed .joined)) (and-r (not (κ (number S u))) _ e)
         where
           out : number S u ≡ k → ⊥
           out = eqb-false (number S u) k (not-true (κ (number S u)) (and-l (not (κ (number S u))) _ e))
 
-          at : (w : Wire) → Joined N w → eqb (w .from) u && κ (number S (w .to)) ≡ true → eqb (w .from) u && (is-cut N S w && W N S k (w .to)) ≡ true
+          at : (w : Wire) → Joined N w → eqb (w .from) u && κ (number S (w .to)) ≡ true → eqb (w .from) u && (isCut N S w && W N S k (w .to)) ≡ true
           at w h f =
               let p : w .from ≡ u = eqb-true (w .from) u (and-l (eqb (w .from) u) (κ (number S (w .to))) f) in
               let q : κ (number S (w .to)) ≡ true = and-r (eqb (w .from) u) (κ (number S (w .to))) f in
@@ -106,7 +105,7 @@ module _ {R P D : Type 0} (N : Network R P D) (S : Sheet R) (k : ℕ) (formed : 
   unfolding bind
   at-none i q =
       let e : box F i ≡ none = rw (box-piece N S κ (formed .rise) i, q) refl in
-      let c : cut-into N S k i ≡ false = no-cut-into i (rw q refl) in
+      let c : cutInto N S k i ≡ false = no-cut-into i (rw q refl) in
       record {
         own-at = rw (e, q) refl;
         input-at = rw (e, q, c) refl;
@@ -123,7 +122,7 @@ module _ {R P D : Type 0} (N : Network R P D) (S : Sheet R) (k : ℕ) (formed : 
       go : (t : Bool) → feeds N S κ (a .id) ≡ t → At (a .id)
       go true f =
           let e : box F (a .id) ≡ some (input a) = rw (box-piece N S κ (formed .rise) (a .id), q, f) refl in
-          let i : wired-into N S k (a .id) ≡ true = into-feeds (a .id) ∙ f in
+          let i : wiredInto N S k (a .id) ≡ true = into-feeds (a .id) ∙ f in
           record {
             own-at = rw (e, q) refl;
             input-at = rw (e, q, i) refl;
@@ -134,8 +133,8 @@ module _ {R P D : Type 0} (N : Network R P D) (S : Sheet R) (k : ℕ) (formed : 
           }
       go false f =
           let e : box F (a .id) ≡ none = rw (box-piece N S κ (formed .rise) (a .id), q, f) refl in
-          let i : wired-into N S k (a .id) ≡ false = into-feeds (a .id) ∙ f in
-          let c : cut-into N S k (a .id) ≡ false = no-cut-into (a .id) (rw q refl) in
+          let i : wiredInto N S k (a .id) ≡ false = into-feeds (a .id) ∙ f in
+          let c : cutInto N S k (a .id) ≡ false = no-cut-into (a .id) (rw q refl) in
           record {
             own-at = rw (e, q) refl;
             input-at = rw (e, q, i, c) refl;
@@ -146,19 +145,19 @@ module _ {R P D : Type 0} (N : Network R P D) (S : Sheet R) (k : ℕ) (formed : 
           }
 
   -- promises in the fragment, where there is a note
-  promised-some : (p : Option R) (l : Bool) (n : R) → is-some (promised p l (some n)) ≡ is-some p || l
+  promised-some : (p : Option R) (l : Bool) (n : R) → isSome (promised p l (some n)) ≡ isSome p || l
   promised-some none true n = refl
   promised-some none false n = refl
   promised-some (some q) l n = refl
 
-  promised-is : (p : Option R) (l : Bool) (n : R) → is-some p || l ≡ true → promised p l (some n) ≡ cond (is-some p) p (some n)
+  promised-is : (p : Option R) (l : Bool) (n : R) → isSome p || l ≡ true → promised p l (some n) ≡ cond (isSome p) p (some n)
   promised-is none true n t = refl
   promised-is none false n t = absurd (false≢true t)
   promised-is (some q) l n t = refl
 
   at-own : (b : Own R D) → box N (b .id) ≡ some (own b) → At (b .id)
   unfolding bind
-  at-own b q = go (κ (number S (b .id))) refl (feeds N S κ (b .id)) refl (is-some-true (note S (b .id)) (own-found N (λ (c : Own R D). is-some (note S (c .id)) ≡ true) (b .id) b entered q))
+  at-own b q = go (κ (number S (b .id))) refl (feeds N S κ (b .id)) refl (is-some-true (note S (b .id)) (own-found N (λ (c : Own R D). isSome (note S (c .id)) ≡ true) (b .id) b entered q))
     where
       piece-is : box F (b .id) ≡ piece N S κ (own b)
       piece-is = rw (box-piece N S κ (formed .rise) (b .id), q) refl
@@ -166,7 +165,7 @@ module _ {R P D : Type 0} (N : Network R P D) (S : Sheet R) (k : ℕ) (formed : 
       go : (s : Bool) → κ (number S (b .id)) ≡ s → (t : Bool) → feeds N S κ (b .id) ≡ t → (n : R) × (note S (b .id) ≡ some n) → At (b .id)
       go true s t f n =
           let e : box F (b .id) ≡ some (own (promising N S b)) = piece-is ∙ rw s refl in
-          let c : cut-into N S k (b .id) ≡ false = cut-feeds (b .id) (rw q refl) ∙ rw s refl in
+          let c : cutInto N S k (b .id) ≡ false = cut-feeds (b .id) (rw q refl) ∙ rw s refl in
           record {
             own-at = rw (e, q, s) refl;
             input-at = rw (e, q, c) refl;
@@ -177,7 +176,7 @@ module _ {R P D : Type 0} (N : Network R P D) (S : Sheet R) (k : ℕ) (formed : 
           }
       go false s true f n =
           let e : box F (b .id) ≡ some (assuming b (n .0)) = piece-is ∙ rw (s, f, n .1) refl in
-          let c : cut-into N S k (b .id) ≡ true = cut-feeds (b .id) (rw q refl) ∙ rw (s, f) refl in
+          let c : cutInto N S k (b .id) ≡ true = cut-feeds (b .id) (rw q refl) ∙ rw (s, f) refl in
           record {
             own-at = rw (e, q, s) refl;
             input-at = rw (e, q, c) refl;
@@ -188,7 +187,7 @@ module _ {R P D : Type 0} (N : Network R P D) (S : Sheet R) (k : ℕ) (formed : 
           }
       go false s false f n =
           let e : box F (b .id) ≡ none = piece-is ∙ rw (s, f) refl in
-          let c : cut-into N S k (b .id) ≡ false = cut-feeds (b .id) (rw q refl) ∙ rw (s, f) refl in
+          let c : cutInto N S k (b .id) ≡ false = cut-feeds (b .id) (rw q refl) ∙ rw (s, f) refl in
           record {
             own-at = rw (e, q, s) refl;
             input-at = rw (e, q, c) refl;
@@ -203,20 +202,20 @@ module _ {R P D : Type 0} (N : Network R P D) (S : Sheet R) (k : ℕ) (formed : 
 
   -- edges: the to end of a kept wire is no input, and its from end is one of the fragment's boxes
   kept-edge : (u v : ℕ) → E F u v ≡ any (λ (w : Wire). κ (number S (w .to)) && (eqb (w .from) u && eqb (w .to) v)) (N .wires)
-  unfolding fragment-of
+  unfolding fragmentOf
   kept-edge u v = any-filter (λ (w : Wire). κ (number S (w .to))) (λ (w : Wire). eqb (w .from) u && eqb (w .to) v) (N .wires)
 
-  box-either : (o : Option (Box R D)) → is-box o ≡ is-own o || is-some (assumed-of o)
+  box-either : (o : Option (Box R D)) → isBox o ≡ isOwn o || isSome (assumedOf o)
   box-either none = refl
   box-either (some (own b)) = refl
   box-either (some (input a)) = refl
 
-  own-not-input : (o : Option (Box R D)) → is-own o ≡ true → is-some (assumed-of o) ≡ false
+  own-not-input : (o : Option (Box R D)) → isOwn o ≡ true → isSome (assumedOf o) ≡ false
   own-not-input none t = refl
   own-not-input (some (own b)) t = refl
   own-not-input (some (input a)) t = absurd (false≢true t)
 
-  there : (u : ℕ) → has-box F u ≡ V-k N S k u
+  there : (u : ℕ) → hasBox F u ≡ V-k N S k u
   there u = box-either (box F u) ∙ ap₂ _||_ (at-every u .own-at) (at-every u .input-at)
 
   edge-at : (u v : ℕ) → E F u v ≡ E-k N S k u v && not (V-in-k N S k v)
@@ -230,7 +229,7 @@ module _ {R P D : Type 0} (N : Network R P D) (S : Sheet R) (k : ℕ) (formed : 
           let q : w .to ≡ v = eqb-true (w .to) v (and-r (eqb (w .from) u) (eqb (w .to) v) (f .2)) in
           let o : owns F v ≡ true = ap (owns F) (sym q) ∙ f .1 .to-own in
           and-i _ _
-          (and-i _ _ (sym (there u) ∙ ap (has-box F) (sym p) ∙ f .1 .from-there)
+          (and-i _ _ (sym (there u) ∙ ap (hasBox F) (sym p) ∙ f .1 .from-there)
           (and-i _ _ (or-i-l _ _ (sym (at-every v .own-at) ∙ o))
           (any-mono _ _ (N .wires) (all-of (N .wires) (λ x h. and-r (κ (number S (x .to))) _ h)) (sym (kept-edge u v) ∙ e))))
           (ap not (sym (at-every v .input-at) ∙ own-not-input (box F v) o))
@@ -248,12 +247,12 @@ module _ {R P D : Type 0} (N : Network R P D) (S : Sheet R) (k : ℕ) (formed : 
 
 pub paper-cut : (𝓐 : Algebra) (B : Bounds) (N : Network (𝓐 .Route) (𝓐 .Policy) (𝓐 .Demand)) (S : Sheet (𝓐 .Route)) (k : ℕ)
     → Sound B N → Cuts 𝓐 N S → AgreesWithPaper 𝓐 N S k
-unfolding fragment-of
+unfolding fragmentOf
 paper-cut 𝓐 B N S k sound cuts =
     let formed = sound-formed B N sound in
     let entered = ((cuts-fits 𝓐 N S B sound) .0 cuts) .entered in
     record {
-      own-boxes = λ u. at-every N S k formed entered u .own-at;
+      owned = λ u. at-every N S k formed entered u .own-at;
       inputs = λ u. at-every N S k formed entered u .input-at;
       outputs = λ u. at-every N S k formed entered u .output-at;
       edges = edge-at N S k formed entered;

@@ -10,7 +10,7 @@ pub record Algebra : Type 1 where
   pub Policy : Type 0
   pub Demand : Type 0
   -- no route, a value like any other
-  pub no-route : Route
+  pub noRoute : Route
   -- whether two routes are equal
   pub same : Route → Route → Bool
   -- the better of two routes, the paper's ⊕
@@ -27,6 +27,6 @@ pub record Choice (𝓐 : Algebra) : Type 0 where
   pub selective : (x y : 𝓐 .Route) → (𝓐 .best x y ≡ x) ⊎ (𝓐 .best x y ≡ y)
   pub commutative : (x y : 𝓐 .Route) → 𝓐 .best x y ≡ 𝓐 .best y x
   pub associative : (x y z : 𝓐 .Route) → 𝓐 .best (𝓐 .best x y) z ≡ 𝓐 .best x (𝓐 .best y z)
-  pub none-worst : (x : 𝓐 .Route) → 𝓐 .best x (𝓐 .no-route) ≡ x
+  pub none-worst : (x : 𝓐 .Route) → 𝓐 .best x (𝓐 .noRoute) ≡ x
   -- a wire makes no route out of none
-  pub carry-none : (p : 𝓐 .Policy) → 𝓐 .carry p (𝓐 .no-route) ≡ 𝓐 .no-route
+  pub carry-none : (p : 𝓐 .Policy) → 𝓐 .carry p (𝓐 .noRoute) ≡ 𝓐 .noRoute

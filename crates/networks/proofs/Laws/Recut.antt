@@ -15,11 +15,11 @@ use Rattle.lists.specs.Test.{and-l, and-r, and-i, same-test}
 use Rattle.lists.specs.All.{All, all-map, all-both, any, any-congr, any-mono, any-or}
 use Rattle.lists.specs.Filter.{some-inj, none-some, filter, filter-filter, filter-congr, any-filter, any-mapped, filterMap-congr}
 use Rattle.lists.specs.Sorted.{find-self}
-use Rattle.networks.specs.Network.{Own, Box, own, input, Wire, Network, box-id, is-own, own-boxes, box, owns}
+use Rattle.networks.specs.Network.{Own, Box, own, input, Wire, Network, boxId, isOwn, ownBoxes, box, owns}
 use Rattle.networks.specs.Sound.{Joined}
 use Rattle.networks.specs.Sheets.{Sheet, number, note}
-use Rattle.networks.specs.Answer.{is-some, Entered}
-use Rattle.networks.specs.Cut.{promised, assuming, leaves, feeds, promising, piece, fragment-of, fragment, numbered, Third}
+use Rattle.networks.specs.Answer.{isSome, Entered}
+use Rattle.networks.specs.Cut.{promised, assuming, leaves, feeds, promising, piece, fragmentOf, fragment, numbered, Third}
 use Rattle.networks.proofs.Laws.Boxes.{own-there, own-fact}
 use Rattle.networks.proofs.Laws.Pieces.{own-boxes-fragment, own-kept}
 use Rattle.networks.proofs.Laws.Formed.{Formed, leaves-own, owns-fragment, fragment-formed}
@@ -64,15 +64,15 @@ twice-promised none n false m = refl
 
 -- the own boxes of a fragment that have a number of another sheet
 pub both-numbered : {R P D : Type 0} (N : Network R P D) (X Y : Sheet R) (x y : ℕ)
-    → any (numbered (fragment N X x) Y y) (own-boxes (fragment N X x)) ≡ any (λ (b : Own R D). numbered N X x b && numbered N Y y b) (own-boxes N)
+    → any (numbered (fragment N X x) Y y) (ownBoxes (fragment N X x)) ≡ any (λ (b : Own R D). numbered N X x b && numbered N Y y b) (ownBoxes N)
 both-numbered N X Y x y =
     ap (any (numbered (fragment N X x) Y y)) (own-boxes-fragment N X (λ (n : ℕ). eqb n x))
-    ∙ any-mapped (numbered (fragment N X x) Y y) (promising N X) (filter (numbered N X x) (own-boxes N))
-    ∙ any-filter (numbered N X x) (numbered N Y y) (own-boxes N)
+    ∙ any-mapped (numbered (fragment N X x) Y y) (promising N X) (filter (numbered N X x) (ownBoxes N))
+    ∙ any-filter (numbered N X x) (numbered N Y y) (ownBoxes N)
 
 module _ {R P D : Type 0} (N : Network R P D) (X Y Z : Sheet R) (formed : Formed N) (fits : Fits N Z) (third : Third X Y Z) where
-  noted : (i : ℕ) → owns N i ≡ true → is-some (note Z i) ≡ true
-  noted i = own-fact N (λ (j : ℕ). is-some (note Z j) ≡ true) i (fits .entered)
+  noted : (i : ℕ) → owns N i ≡ true → isSome (note Z i) ≡ true
+  noted i = own-fact N (λ (j : ℕ). isSome (note Z j) ≡ true) i (fits .entered)
 
   pub meet : (u v : ℕ) → owns N u ≡ true → owns N v ≡ true → eqb (number Z u) (number Z v) ≡ eqb (number X u) (number X v) && eqb (number Y u) (number Y v)
   meet u v p q = same-test _ _
@@ -83,8 +83,8 @@ module _ {R P D : Type 0} (N : Network R P D) (X Y Z : Sheet R) (formed : Formed
       )))
 
   -- own boxes with what is known of each
-  own-all : (Q : Own R D → Type 0) → All (λ (b : Own R D). owns N (b .id) ≡ true → Q b) (own-boxes N) → All Q (own-boxes N)
-  own-all Q h = all-map (own-boxes N) (λ b f. f .1 (ap is-own (f .0))) (all-both _ _ (own-boxes N) (own-there N (formed .rise)) h)
+  own-all : (Q : Own R D → Type 0) → All (λ (b : Own R D). owns N (b .id) ≡ true → Q b) (ownBoxes N) → All Q (ownBoxes N)
+  own-all Q h = all-map (ownBoxes N) (λ b f. f .1 (ap isOwn (f .0))) (all-both _ _ (ownBoxes N) (own-there N (formed .rise)) h)
 
   first-leaves : (i : ℕ) → owns N i ≡ true → leaves N X i ≡ true → leaves N Z i ≡ true
   first-leaves i t = rw (leaves-own N X formed i t, leaves-own N Z formed i t) (any-mono _ _ (N .wires)
@@ -92,8 +92,8 @@ module _ {R P D : Type 0} (N : Network R P D) (X Y Z : Sheet R) (formed : Formed
 
   pub first-fits : Fits N X
   first-fits = record {
-    entered = all-map (own-boxes N) (λ b e. rw (third .first-notes (b .id)) e) (fits .entered);
-    notes = own-all _ (all-map (own-boxes N) (λ b f t l q e. third .first-notes (b .id) ∙ f (first-leaves (b .id) t l) q e) (fits .notes));
+    entered = all-map (ownBoxes N) (λ b e. rw (third .first-notes (b .id)) e) (fits .entered);
+    notes = own-all _ (all-map (ownBoxes N) (λ b f t l q e. third .first-notes (b .id) ∙ f (first-leaves (b .id) t l) q e) (fits .notes));
   }
 
   module _ (x : ℕ) where
@@ -109,7 +109,7 @@ module _ {R P D : Type 0} (N : Network R P D) (X Y Z : Sheet R) (formed : Formed
     -- the wires that leave an own box of the fragment by the second sheet
     inner-leaves : (i : ℕ) → owns N i ≡ true → eqb (number X i) x ≡ true
         → leaves inner Y i ≡ any (λ (w : Wire). eqb (number X (w .to)) x && (eqb (w .from) i && not (eqb (number Y (w .to)) (number Y i)))) (N .wires)
-    unfolding fragment-of
+    unfolding fragmentOf
     inner-leaves i t e =
         leaves-own inner Y inner-formed i (inner-owns i t e)
         ∙ any-filter (λ (w : Wire). eqb (number X (w .to)) x) (λ (w : Wire). eqb (w .from) i && not (eqb (number Y (w .to)) (number Y i))) (N .wires)
@@ -120,8 +120,8 @@ module _ {R P D : Type 0} (N : Network R P D) (X Y Z : Sheet R) (formed : Formed
 
     pub second-fits : Fits inner Y
     second-fits = record {
-      entered = own-kept N X (λ (n : ℕ). eqb n x) _ (all-map (own-boxes N) (λ b f t. rw (third .second-notes (b .id)) f) (fits .entered));
-      notes = own-kept N X (λ (n : ℕ). eqb n x) _ (own-all _ (all-map (own-boxes N) at (fits .notes)));
+      entered = own-kept N X (λ (n : ℕ). eqb n x) _ (all-map (ownBoxes N) (λ b f t. rw (third .second-notes (b .id)) f) (fits .entered));
+      notes = own-kept N X (λ (n : ℕ). eqb n x) _ (own-all _ (all-map (ownBoxes N) at (fits .notes)));
     }
       where
         promise : (i : ℕ) (p : Option R) (l : Bool) → ((q : R) → p ≡ some q → note Z i ≡ some q) → (q : R) → promised p l (note X i) ≡ some q → note Y i ≡ some q
@@ -148,7 +148,7 @@ module _ {R P D : Type 0} (N : Network R P D) (X Y Z : Sheet R) (formed : Formed
       wire-meets = all-map (N .wires) (λ w h. meets (w .to) (h .to-own)) (formed .joined)
 
       same-feeds : (i : ℕ) → feeds inner Y in-y i ≡ feeds N Z in-z i
-      unfolding feeds fragment-of
+      unfolding feeds fragmentOf
       same-feeds i =
           any-filter (λ (w : Wire). in-x (number X (w .to))) (λ (w : Wire). eqb (w .from) i && in-y (number Y (w .to))) (N .wires)
           ∙ any-congr _ _ (N .wires) (all-map (N .wires)
@@ -184,7 +184,7 @@ module _ {R P D : Type 0} (N : Network R P D) (X Y Z : Sheet R) (formed : Formed
           go false true f q = absurd (false≢true (f refl))
           go false false f q = refl
 
-      same-box : (v : Box R D) → (is-own (some v) ≡ true → owns N (box-id v) ≡ true) → bind (piece N X in-x v) (piece inner Y in-y) ≡ piece N Z in-z v
+      same-box : (v : Box R D) → (isOwn (some v) ≡ true → owns N (boxId v) ≡ true) → bind (piece N X in-x v) (piece inner Y in-y) ≡ piece N Z in-z v
       unfolding bind
       same-box (input a) f = same-input (a .id) (a .assumed)
       same-box (own b) f = go (in-x (number X (b .id))) refl (in-y (number Y (b .id))) refl
@@ -211,7 +211,7 @@ module _ {R P D : Type 0} (N : Network R P D) (X Y Z : Sheet R) (formed : Formed
           go false p β q = rw (meets (b .id) t, p, third .first-notes (b .id)) (assumed (note Z (b .id)))
 
       pub recut : fragment inner Y y ≡ fragment N Z z
-      unfolding fragment-of
+      unfolding fragmentOf
       recut = λ i. record {
         policies = N .policies;
         boxes = same-boxes i;
@@ -220,7 +220,7 @@ module _ {R P D : Type 0} (N : Network R P D) (X Y Z : Sheet R) (formed : Formed
         where
           same-boxes : filterMap (piece inner Y in-y) (filterMap (piece N X in-x) (N .boxes)) ≡ filterMap (piece N Z in-z) (N .boxes)
           same-boxes = filterMap-filterMap (piece N X in-x) (piece inner Y in-y) (N .boxes)
-              ∙ filterMap-congr _ _ (N .boxes) (all-map (N .boxes) (λ v e. same-box v (λ o. ap is-own e ∙ o)) (find-self box-id 0 (N .boxes) (formed .rise)))
+              ∙ filterMap-congr _ _ (N .boxes) (all-map (N .boxes) (λ v e. same-box v (λ o. ap isOwn e ∙ o)) (find-self boxId 0 (N .boxes) (formed .rise)))
 
           same-wires : filter (λ (w : Wire). in-y (number Y (w .to))) (filter (λ (w : Wire). in-x (number X (w .to))) (N .wires)) ≡ filter (λ (w : Wire). in-z (number Z (w .to))) (N .wires)
           same-wires = filter-filter (λ (w : Wire). in-x (number X (w .to))) (λ (w : Wire). in-y (number Y (w .to))) (N .wires) ∙ sym (filter-congr _ _ (N .wires) wire-meets)
