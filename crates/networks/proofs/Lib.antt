@@ -7,4 +7,5 @@ pub mod FragmentsAndWhole
 pub mod Recutting
 pub mod OneFragment
 pub mod PaperCut
+pub mod HouseRoutes
 pub mod Laws

@@ -1,6 +1,7 @@
 -- Routing algebras (document 000, section III): everything that judging and cutting ask of a kind of route.
 --     Algebra     routes, policies and demands; of them only that `same` tells whether two routes are equal
 --     Choice      the laws that make the best of several routes one route; the theorems that need them say so
+--     AtLeast     the order that these laws make of `best`
 use mathlib.Core.Path.{_≡_}
 use mathlib.Core.Bool.{Bool, true}
 use mathlib.Core.Logic.{_⊎_}
@@ -28,5 +29,9 @@ pub record Choice (𝓐 : Algebra) : Type 0 where
   pub commutative : (x y : 𝓐 .Route) → 𝓐 .best x y ≡ 𝓐 .best y x
   pub associative : (x y z : 𝓐 .Route) → 𝓐 .best (𝓐 .best x y) z ≡ 𝓐 .best x (𝓐 .best y z)
   pub none-worst : (x : 𝓐 .Route) → 𝓐 .best x (𝓐 .noRoute) ≡ x
-  -- a wire makes no route out of none
+  -- a wire makes nothing out of no route
   pub carry-none : (p : 𝓐 .Policy) → 𝓐 .carry p (𝓐 .noRoute) ≡ 𝓐 .noRoute
+
+-- x is at least as good as y
+abbrev pub AtLeast : (𝓐 : Algebra) → 𝓐 .Route → 𝓐 .Route → Type 0
+AtLeast 𝓐 x y = 𝓐 .best x y ≡ x

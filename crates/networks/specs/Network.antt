@@ -1,8 +1,9 @@
 -- Open networks (document 000, definition IV.1): own boxes, inputs, wires and policies, over any types of routes, policies and demands.
---     Own, Input, Box, Wire, Network     the parts
---     ownBoxes, inputs                  the two kinds of box, by rising id
---     box, owns, hasBox                 the box with an id
---     wiresInto, wireKey               the wires into a box; the order in which wires stand
+--     Own, Input, Box, Wire, Network     the parts; NetworkOver, the networks over an algebra
+--     wireKey                            the order in which wires stand
+--     ownBoxes, inputs                   the two kinds of box, by rising id
+--     box, hasBox, owns                  the box with an id
+--     wiresInto                          the wires into a box
 use mathlib.Core.Bool.{Bool, true, false}
 use mathlib.Core.Option.{Option, none, some}
 use mathlib.Core.List.{List, filterMap}
@@ -10,6 +11,7 @@ use Prim.Native.Nat.{ℕ, _+_, _*_}
 use lib.Dec.{eqb}
 use Rattle.lists.specs.Filter.{filter}
 use Rattle.lists.specs.Sorted.{find}
+use Rattle.networks.specs.Algebra.{Algebra}
 
 -- A box of ours. A promise of no route is a promise; `none` is no promise.
 pub record Own (R D : Type 0) : Type 0 where
@@ -37,6 +39,9 @@ pub record Network (R P D : Type 0) : Type 0 where
   pub policies : List P
   pub boxes : List (Box R D)
   pub wires : List Wire
+
+abbrev pub NetworkOver : Algebra → Type 0
+NetworkOver 𝓐 = Network (𝓐 .Route) (𝓐 .Policy) (𝓐 .Demand)
 
 -- Ids are 16-bit numbers.
 abbrev pub ids : ℕ

@@ -1,7 +1,7 @@
 -- Solutions of an open network (document 000, section IV-A), for any mapping ℒ of ids to routes.
 --     trans, bestOf, due     what a wire gives; the best of several; the right-hand side of equation 6
 --     Solution                equations 6, 7 and 8, each read over one letter, so that an input holds its assumed route
---     Demands                 equation 9 for the property that every own box's demand is met
+--     Holds, Demands          equation 9 for any property, and for the property that every own box's demand is met
 --     neighbour, mapping      the mapping that a route list gives a network
 use mathlib.Core.Path.{_≡_}
 use mathlib.Core.Bool.{true}
@@ -46,7 +46,11 @@ module _ (𝓐 : Algebra) where
     -- ℒ(u) = guar(u) at every u that promises a route, or promises to hold none
     pub equation-8 : All (λ (b : Own Route Demand). (q : Route) → b .promise ≡ some q → ℒ (b .id) ≡ q) (ownBoxes N)
 
-  -- P(u, ℒ(u)) at every u that is no input, where P says that u's demand is met
+  -- P(u, ℒ(u)) at every u that is no input
+  abbrev pub Holds : (ℕ → Route → Type 0) → Network Route Policy Demand → (ℕ → Route) → Type 0
+  Holds P N ℒ = All (λ (b : Own Route Demand). P (b .id) (ℒ (b .id))) (ownBoxes N)
+
+  -- the same where P says that u's demand is met
   abbrev pub Demands : Network Route Policy Demand → (ℕ → Route) → Type 0
   Demands N ℒ = All (λ (b : Own Route Demand). meets (b .demand) (ℒ (b .id)) ≡ true) (ownBoxes N)
 

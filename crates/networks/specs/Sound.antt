@@ -2,6 +2,7 @@
 --     Bounds             the greatest numbers of boxes, wires and policies
 --     Joined, Sound      a wire fits the network; the network is sound
 --     sound              the same as a test; proofs/SoundTest.antt shows that both say the same
+--     NoMore             a network has no more boxes, wires and policies than another
 use mathlib.Core.Path.{_≡_}
 use mathlib.Core.Bool.{Bool, true, not}
 use mathlib.Core.List.{List, [], _∷_}
@@ -72,3 +73,8 @@ module _ {R P D : Type 0} where
 
   unfoldable pub sound : Bounds → Network R P D → Bool
   sound B N = hold (soundTests B N)
+
+pub record NoMore {R P D : Type 0} (F N : Network R P D) : Type 0 where
+  pub boxes : length (F .boxes) ≤ length (N .boxes)
+  pub wires : length (F .wires) ≤ length (N .wires)
+  pub policies : length (F .policies) ≤ length (N .policies)
