@@ -16,7 +16,8 @@ use Rattle.networks.specs.Solution.{mapping, Solution, Demands}
 use Rattle.networks.specs.Judge.{held, Passes}
 use Rattle.networks.specs.Cut.{promised, leaves, fragmentOf, fragment, numbered, Agrees, cut, Cuts}
 use Rattle.networks.proofs.Laws.Pieces.{pieces-rise}
-use Rattle.networks.proofs.Laws.Formed.{Formed, is-some-true, sound-formed, fragment-formed}
+use Rattle.networks.proofs.Laws.Answers.{isSome-true}
+use Rattle.networks.proofs.Laws.Formed.{Formed, sound-formed, fragment-formed}
 use Rattle.networks.proofs.Laws.Cutting.{Fits, cut-answer, cut-given, cuts-fits}
 use Rattle.networks.proofs.Laws.Solutions.{everywhere, anywhere, promised-note, solution-ext, whole-solved, notes-kept, fragment-solved}
 use Rattle.networks.proofs.Laws.Judging.{own-held, passes-solved}
@@ -46,7 +47,7 @@ module _ (𝓐 : Algebra) (B : Bounds) (N : Network (𝓐 .Route) (𝓐 .Policy)
 
   -- a listed route, where there is an entry
   held-listed : All (λ (b : Own Route Demand). listed L (b .id) ≡ some (held 𝓐 L (b .id))) (ownBoxes N)
-  held-listed = all-map (ownBoxes N) (λ b t. let f = is-some-true (listed L (b .id)) t in rw (f .1) refl) entered
+  held-listed = all-map (ownBoxes N) (λ b t. let f = isSome-true (listed L (b .id)) t in rw (f .1) refl) entered
 
   -- from the fragments to the whole
   module _ (parts : (k : ℕ) → Passes 𝓐 (fragment N S k) L) where

@@ -1,5 +1,4 @@
 -- The cutter's answer, taken apart.
---     lowest-none .. refuse-given     the rows of a table of refusals
 --     Fits                            what `Cuts` says, box by box
 --     cut-answer, own-cut, cut-given  the answers of a sheet that fits; what an answer that was given tells
 --     cuts-fits                       a sheet cuts a sound network exactly where it fits
@@ -23,39 +22,7 @@ use Rattle.networks.specs.Sheets.{Sheet, number, note}
 use Rattle.networks.specs.Answer.{Answer, given, refused, refuse, lowest, isSome, Entered, unentered}
 use Rattle.networks.specs.Cut.{leaves, fragment, numbered, offNote, clashes, cut, Cuts}
 use Rattle.networks.proofs.Laws.Boxes.{own-any}
-
--- the rows of a table
-pub lowest-none : {R D : Type 0} (test : Own R D → Bool) (bs : List (Own R D)) → lowest test bs ≡ none → All (λ (b : Own R D). test b ≡ false) bs
-lowest-none test [] e = tt
-lowest-none {R} {D} test (b ∷ bs) e = go (test b) refl e (lowest-none test bs)
-  where
-    go : (t : Bool) → test b ≡ t → cond t (some (b .id)) (lowest test bs) ≡ none → (lowest test bs ≡ none → All (λ (c : Own R D). test c ≡ false) bs)
-        → (test b ≡ false) × All (λ (c : Own R D). test c ≡ false) bs
-    go true q z r = absurd (none-some (sym z))
-    go false q z r = (q, r z)
-
-pub none-lowest : {R D : Type 0} (test : Own R D → Bool) (bs : List (Own R D)) → All (λ (b : Own R D). test b ≡ false) bs → lowest test bs ≡ none
-none-lowest test [] h = refl
-none-lowest test (b ∷ bs) h = rw (h .0) (none-lowest test bs (h .1))
-
-pub given-same : {A : Type 0} {x y : A} → given x ≡ given y → x ≡ y
-given-same e = cc
-
-pub refused-given : {A : Type 0} {number place : ℕ} {x : A} → refused number place ≡ given x → ⊥
-refused-given e = let z : _≡_ {A = ℕ} 0 1 = cc in omega arith
-
-pub refused-number : {A : Type 0} {n m p q : ℕ} → _≡_ {A = Answer A} (refused n p) (refused m q) → n ≡ m
-refused-number e = cc
-
-pub refuse-given : {A : Type 0} (number : ℕ) (place : Option ℕ) (below : Answer A) (x : A) → refuse number place below ≡ given x → (place ≡ none) × (below ≡ given x)
-refuse-given number none below x e = (refl, e)
-refuse-given number (some place) below x e = absurd (refused-given e)
-
-pub entered-none : {R P D : Type 0} (N : Network R P D) (entry : ℕ → Option R) → Entered N entry → unentered N entry ≡ none
-entered-none N entry h = none-lowest _ (ownBoxes N) (all-map (ownBoxes N) (λ b e. ap not e) h)
-
-pub none-entered : {R P D : Type 0} (N : Network R P D) (entry : ℕ → Option R) → unentered N entry ≡ none → Entered N entry
-none-entered N entry e = all-map (ownBoxes N) (λ b q. not-false (isSome (entry (b .id))) q) (lowest-none _ (ownBoxes N) e)
+use Rattle.networks.proofs.Laws.Answers.{lowest-none, none-lowest, given-same, refused-given, refused-number, refuse-given, entered-none, none-entered}
 
 -- Every own box has an entry, and a promise of a box that a cut wire leaves is its note.
 pub record Fits {R P D : Type 0} (N : Network R P D) (S : Sheet R) : Type 0 where

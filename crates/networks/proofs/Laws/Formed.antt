@@ -2,7 +2,6 @@
 --     Formed, sound-formed          the two facts
 --     leaves-own, feeds-leaves      cut wires, where every wire leads to an own box
 --     owns-fragment, fragment-formed
---     is-some-true                  from an entry to what it holds
 use mathlib.Core.Path.{_≡_, refl, sym, ap, ap₂, _∙_, subst}
 use mathlib.Core.Bool.{Bool, true, false, cond, not, _&&_, false≢true, true≢false}
 use mathlib.Core.Option.{Option, none, some, Option·map, bind}
@@ -20,11 +19,8 @@ use Rattle.networks.specs.Sheets.{Sheet, number, note}
 use Rattle.networks.specs.Answer.{isSome, Entered}
 use Rattle.networks.specs.Cut.{leaves, feeds, promising, assuming, piece, fragmentOf}
 use Rattle.networks.proofs.Laws.Boxes.{own-found, owned}
+use Rattle.networks.proofs.Laws.Answers.{isSome-true}
 use Rattle.networks.proofs.Laws.Pieces.{pieces-rise, box-piece}
-
-pub is-some-true : {A : Type 0} (o : Option A) → isSome o ≡ true → (x : A) × (o ≡ some x)
-is-some-true none e = absurd (false≢true e)
-is-some-true (some x) e = (x, refl)
 
 pub record Formed {R P D : Type 0} (N : Network R P D) : Type 0 where
   pub rise : Rises boxId 0 (N .boxes)
@@ -77,7 +73,7 @@ module _ {R P D : Type 0} (N : Network R P D) (S : Sheet R) (formed : Formed N) 
       -- the sender of a wire into the fragment is one of its boxes
       is-box-piece : (v : Box R D) → ((b : Own R D) → v ≡ own b → isSome (note S (b .id)) ≡ true) → feeds N S κ (boxId v) ≡ true → isBox (piece N S κ v) ≡ true
       is-box-piece (input a) h f = rw f refl
-      is-box-piece (own b) h f = rw f (go (κ (number S (b .id))) (is-some-true (note S (b .id)) (h b refl)))
+      is-box-piece (own b) h f = rw f (go (κ (number S (b .id))) (isSome-true (note S (b .id)) (h b refl)))
         where
           go : (s : Bool) → (n : R) × (note S (b .id) ≡ some n) → isBox (cond s (some (own (promising N S b))) (Option·map (assuming b) (note S (b .id)))) ≡ true
           go true n = refl

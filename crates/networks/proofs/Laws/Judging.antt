@@ -26,7 +26,7 @@ use Rattle.networks.specs.Answer.{given, refuse, Entered, unentered}
 use Rattle.networks.specs.Solution.{routeOf, neighbour, due, mapping, Solution, Demands}
 use Rattle.networks.specs.Judge.{Finding, Verdict, pass, found, held, breaks, firstFinding, fault, stop, verdictFrom, judge, Passes}
 use Rattle.networks.proofs.Laws.Boxes.{own-there, input-there}
-use Rattle.networks.proofs.Laws.Cutting.{entered-none, none-entered, given-same, refuse-given}
+use Rattle.networks.proofs.Laws.Answers.{entered-none, none-entered, given-same, refuse-given}
 
 module _ (𝓐 : Algebra) where
   open Algebra 𝓐 using (Route, Policy, Demand, noRoute, same, meets, same-true, same-self)

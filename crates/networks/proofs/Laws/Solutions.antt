@@ -25,7 +25,7 @@ use Rattle.networks.specs.Solution.{trans, bestOf, due, Solution}
 use Rattle.networks.specs.Cut.{promised, leaves, feeds, promising, fragmentOf, fragment, Agrees}
 use Rattle.networks.proofs.Laws.Boxes.{own-there, input-there}
 use Rattle.networks.proofs.Laws.Pieces.{own-kept, kept-own, inputs-kept, kept-inputs, wires-into-fragment}
-use Rattle.networks.proofs.Laws.Formed.{Formed, is-some-true, feeds-leaves}
+use Rattle.networks.proofs.Laws.Formed.{Formed, feeds-leaves}
 use Rattle.networks.proofs.Laws.Cutting.{Fits}
 
 -- what the own boxes of every fragment have, every own box has as its fragment has it
