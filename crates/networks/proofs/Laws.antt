@@ -18,4 +18,5 @@ pub mod Solutions
 pub mod Judging
 pub mod Agreeing
 pub mod Mapping
+pub mod Whole
 pub mod Points

@@ -7,5 +7,6 @@ pub mod FragmentsAndWhole
 pub mod Recutting
 pub mod OneFragment
 pub mod PaperCut
+pub mod PaperTheorems
 pub mod HouseRoutes
 pub mod Laws

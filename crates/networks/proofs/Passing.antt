@@ -8,7 +8,7 @@ use native.Mathlib.Nat.{zero-add}
 use lib.ListN.{length}
 use Rattle.lists.specs.All.{All}
 use Rattle.networks.specs.Algebra.{Algebra}
-use Rattle.networks.specs.Network.{Own, own, Network, ownBoxes, box}
+use Rattle.networks.specs.Network.{Own, own, NetworkOver, ownBoxes, box}
 use Rattle.networks.specs.Sound.{Bounds, Sound}
 use Rattle.networks.specs.Sheets.{RouteList, listed}
 use Rattle.networks.specs.Answer.{given, Entered}
@@ -17,7 +17,7 @@ use Rattle.networks.specs.Judge.{pass, found, fault, judge, Passes, upTo
 use Rattle.networks.proofs.Laws.Boxes.{own-there, own-rise}
 use Rattle.networks.proofs.Laws.Judging.{pass-verdict, First, verdict-found, judge-given, passes-solved}
 
-module _ (𝓐 : Algebra) (B : Bounds) (N : Network (𝓐 .Route) (𝓐 .Policy) (𝓐 .Demand)) (L : RouteList (𝓐 .Route)) (sound : Sound B N) where
+module _ (𝓐 : Algebra) (B : Bounds) (N : NetworkOver 𝓐) (L : RouteList (𝓐 .Route)) (sound : Sound B N) where
   open Algebra 𝓐 using (Route, Demand)
 
   pub passing : Passes 𝓐 N L ↔ (Entered N (listed L) × Solution 𝓐 N (mapping 𝓐 N L) × Demands 𝓐 N (mapping 𝓐 N L))

@@ -10,7 +10,7 @@ use borrow.Author.Tests.{eqb-true, eq-eqb}
 use Rattle.lists.specs.Test.{and-l, and-r, and-i}
 use Rattle.lists.specs.All.{any, any-found}
 use Rattle.networks.specs.Algebra.{Algebra}
-use Rattle.networks.specs.Network.{Own, own, Network, isOwn, ownBoxes, owns}
+use Rattle.networks.specs.Network.{Own, NetworkOver, isOwn, ownBoxes, owns}
 use Rattle.networks.specs.Sound.{Bounds, Sound}
 use Rattle.networks.specs.Sheets.{Sheet, number}
 use Rattle.networks.specs.Answer.{given, refused, refuse}
@@ -27,7 +27,7 @@ swapped X Y Z h = record {
   together = λ u v p q. let f = h .together u v p q in (λ e. let z = f .0 e in (z .1, z .0), λ e. f .1 (e .1, e .0));
 }
 
-module _ (𝓐 : Algebra) (B : Bounds) (N : Network (𝓐 .Route) (𝓐 .Policy) (𝓐 .Demand)) (X Y Z : Sheet (𝓐 .Route))
+module _ (𝓐 : Algebra) (B : Bounds) (N : NetworkOver 𝓐) (X Y Z : Sheet (𝓐 .Route))
     (sound : Sound B N) (third : Third X Y Z) (cuts : Cuts 𝓐 N Z) where
   open Algebra 𝓐 using (Route, Policy, Demand)
 
@@ -81,7 +81,7 @@ module _ (𝓐 : Algebra) (B : Bounds) (N : Network (𝓐 .Route) (𝓐 .Policy)
       )
 
 -- by Y and then by X
-pub second-then-first : (𝓐 : Algebra) (B : Bounds) (N : Network (𝓐 .Route) (𝓐 .Policy) (𝓐 .Demand)) (X Y Z : Sheet (𝓐 .Route))
+pub second-then-first : (𝓐 : Algebra) (B : Bounds) (N : NetworkOver 𝓐) (X Y Z : Sheet (𝓐 .Route))
     → Sound B N → Third X Y Z → Cuts 𝓐 N Z → (w : ℕ) → owns N w ≡ true
     → cutTwice 𝓐 N Y (number Y w) X (number X w) ≡ cutTwice 𝓐 N X (number X w) Y (number Y w)
 second-then-first 𝓐 B N X Y Z sound third cuts w t =

@@ -6,14 +6,14 @@ use mathlib.Core.List.{List, [], _∷_}
 use Prim.Native.Nat.{ℕ, suc}
 use Rattle.lists.specs.All.{All}
 use Rattle.networks.specs.Algebra.{Algebra}
-use Rattle.networks.specs.Network.{Own, Box, own, input, Network, ownBoxes, box}
+use Rattle.networks.specs.Network.{Own, Box, own, input, NetworkOver, ownBoxes, box}
 use Rattle.networks.specs.Sheets.{RouteList, listed}
 use Rattle.networks.specs.Answer.{given, refuse, lowest, isSome, unentered}
 use Rattle.networks.specs.Solution.{routeOf, neighbour, due, mapping}
 use Rattle.networks.specs.Judge.{Finding, Verdict, firstFinding, fault, stop, verdictFrom, judge}
 use Rattle.networks.proofs.Laws.Boxes.{own-found}
 
-module _ (𝓐 : Algebra) (N : Network (𝓐 .Route) (𝓐 .Policy) (𝓐 .Demand)) (L M : RouteList (𝓐 .Route))
+module _ (𝓐 : Algebra) (N : NetworkOver 𝓐) (L M : RouteList (𝓐 .Route))
     (agree : All (λ (b : Own (𝓐 .Route) (𝓐 .Demand)). listed L (b .id) ≡ listed M (b .id)) (ownBoxes N)) where
   open Algebra 𝓐 using (Route, Policy, Demand, noRoute)
 

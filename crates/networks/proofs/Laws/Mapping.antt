@@ -10,7 +10,7 @@ use lib.Dec.{eqb}
 use Rattle.lists.specs.All.{any}
 use Rattle.lists.specs.Filter.{filter-none}
 use Rattle.networks.specs.Algebra.{Algebra}
-use Rattle.networks.specs.Network.{Own, Box, own, input, Network, isBox, isOwn, ownBoxes, box, hasBox}
+use Rattle.networks.specs.Network.{Own, Box, own, input, NetworkOver, isBox, isOwn, ownBoxes, box, hasBox}
 use Rattle.networks.specs.Sheets.{Sheet, RouteList, number, note, listed}
 use Rattle.networks.specs.Solution.{routeOf, mapping}
 use Rattle.networks.specs.Judge.{verdictFrom, judge, Passes}
@@ -19,7 +19,7 @@ use Rattle.networks.proofs.Laws.Boxes.{own-found, own-there}
 use Rattle.networks.proofs.Laws.Pieces.{box-piece, own-boxes-fragment}
 use Rattle.networks.proofs.Laws.Formed.{Formed, feeds-leaves}
 
-module _ (𝓐 : Algebra) (N : Network (𝓐 .Route) (𝓐 .Policy) (𝓐 .Demand)) (S : Sheet (𝓐 .Route)) (L : RouteList (𝓐 .Route)) (k : ℕ) where
+module _ (𝓐 : Algebra) (N : NetworkOver 𝓐) (S : Sheet (𝓐 .Route)) (L : RouteList (𝓐 .Route)) (k : ℕ) where
   open Algebra 𝓐 using (Route, Demand, noRoute)
 
   abbrev among : ℕ → Bool
