@@ -1,5 +1,7 @@
 -- Laws about the definitions of specs/, in the order in which they rest on each other.
---     Boxes, Answers              boxes by kind and id; answers and refusals taken apart
+--     Boxes, Wires, Entries       boxes by kind and id; the order of wires; what a sheet or a list says of a box
+--     Answers                     answers and refusals taken apart
+--     Order                       the order that the laws of choice make
 --     Pieces, Formed, Soundness   what a fragment has, what of it every cut keeps, and that it is sound
 --     Cutting, Uncut, Recut       the cutter's answers; a network that nothing cuts; one cut upon another
 --     Solutions                   solutions in a network and in its fragments
@@ -7,7 +9,10 @@
 --     Mapping, Whole              what a list maps a fragment's boxes to; fragments and whole
 --     Points                      the paper's definition of a fragment, id by id
 pub mod Boxes
+pub mod Wires
+pub mod Entries
 pub mod Answers
+pub mod Order
 pub mod Pieces
 pub mod Formed
 pub mod Soundness

@@ -2,8 +2,9 @@
 --     SheetEntry, Sheet         the annotated cut: a fragment number and a note for each box
 --     ListEntry, RouteList      the proposal: a route for each box
 --     number, note, listed      what stands for a box. The theorems ask nothing more of a sheet or a list.
+--     noted                     a sheet's boxes and notes
 use mathlib.Core.Option.{Option, Option·map, Option·getD}
-use mathlib.Core.List.{List}
+use mathlib.Core.List.{List, map}
 use Prim.Native.Nat.{ℕ}
 use Rattle.lists.specs.Sorted.{find}
 
@@ -40,3 +41,7 @@ module _ {R : Type 0} where
   -- The route that is listed for a box, if it has an entry: a box without an entry is not a box that holds no route.
   unfoldable pub listed : RouteList R → ℕ → Option R
   listed L i = Option·map (λ (e : ListEntry R). e .route) (listEntry L i)
+
+  -- A sheet's boxes and notes, with the numbers left out.
+  abbrev pub noted : Sheet R → RouteList R
+  noted S = map (λ (e : SheetEntry R). record { id = e .id; route = e .note }) S

@@ -1,5 +1,6 @@
 -- Solutions of an open network (document 000, section IV-A), for any mapping ℒ of ids to routes.
---     trans, bestOf, due     what a wire gives; the best of several; the right-hand side of equation 6
+--     trans, offers           what a wire gives, and what all wires into a box give it
+--     bestOf, due             the best of several; the right-hand side of equation 6
 --     Solution                equations 6, 7 and 8, each read over one letter, so that an input holds its assumed route
 --     Holds, Demands          equation 9 for any property, and for the property that every own box's demand is met
 --     neighbour, mapping      the mapping that a route list gives a network
@@ -34,9 +35,13 @@ module _ (𝓐 : Algebra) where
   bestOf r [] = r
   bestOf r (s ∷ ss) = bestOf (best r s) ss
 
-  -- The due route of an own box: init(u) ⊕ ⨁ trans(vu, ℒ(v)), over its wires in order.
+  -- what the wires into a box give it, in their order: trans(vu, ℒ(v)) for every vu ∈ E
+  abbrev pub offers : Network Route Policy Demand → (ℕ → Route) → ℕ → List Route
+  offers N ℒ i = map (λ (w : Wire). trans N w (ℒ (w .from))) (wiresInto N i)
+
+  -- the due route of an own box: init(u) ⊕ ⨁ trans(vu, ℒ(v))
   unfoldable pub due : Network Route Policy Demand → (ℕ → Route) → Own Route Demand → Route
-  due N ℒ b = bestOf (b .initial) (map (λ (w : Wire). trans N w (ℒ (w .from))) (wiresInto N (b .id)))
+  due N ℒ b = bestOf (b .initial) (offers N ℒ (b .id))
 
   pub record Solution (N : Network Route Policy Demand) (ℒ : ℕ → Route) : Type 0 where
     -- ℒ(u) = init(u) ⊕ ⨁ trans(vu, ℒ(v)) at every u that is no input
