@@ -10,7 +10,7 @@ use Rattle.lists.specs.All.{All, all-map, all-both}
 use Rattle.networks.specs.Algebra.{Algebra}
 use Rattle.networks.specs.Network.{Own, NetworkOver, isBox, ownBoxes, hasBox}
 use Rattle.networks.specs.Sound.{Bounds, Sound}
-use Rattle.networks.specs.Sheets.{Sheet, note}
+use Rattle.networks.specs.Sheets.{Sheet}
 use Rattle.networks.specs.Solution.{Solution, Holds}
 use Rattle.networks.specs.Cut.{fragment, Agrees, Cuts}
 use Rattle.networks.proofs.FragmentsAndWhole.{solutions-and-whole}

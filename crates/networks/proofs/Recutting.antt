@@ -2,8 +2,7 @@
 -- where both do. Where Z cuts a sound network, cutting by X and the fragment by Y gives Z's fragment of those boxes, or is refused with
 -- 18 where no own box is in both; Y before X gives the same. Buffers do not come into it here.
 use mathlib.Core.Path.{_≡_, refl, sym, ap, _∙_}
-use mathlib.Core.Bool.{Bool, true, false, cond, _&&_}
-use mathlib.Core.Option.{none, some}
+use mathlib.Core.Bool.{Bool, true, false, _&&_}
 use Prim.Native.Nat.{ℕ}
 use lib.Dec.{eqb}
 use borrow.Author.Tests.{eqb-true, eq-eqb}
@@ -13,7 +12,7 @@ use Rattle.networks.specs.Algebra.{Algebra}
 use Rattle.networks.specs.Network.{Own, NetworkOver, isOwn, ownBoxes, owns}
 use Rattle.networks.specs.Sound.{Bounds, Sound}
 use Rattle.networks.specs.Sheets.{Sheet, number}
-use Rattle.networks.specs.Answer.{given, refused, refuse}
+use Rattle.networks.specs.Answer.{given, refused}
 use Rattle.networks.specs.Cut.{fragment, numbered, cut, cutTwice, Cuts, Third}
 use Rattle.networks.proofs.Laws.Boxes.{own-there, own-any}
 use Rattle.networks.proofs.Laws.Formed.{Formed, sound-formed}

@@ -2,13 +2,12 @@
 use mathlib.Core.Path.{_≡_, ap}
 use mathlib.Core.Bool.{Bool, true, not}
 use mathlib.Core.Logic.{_↔_}
-use Prim.Native.Nat.{ℕ, _<_}
 use lib.Dec.{eqb, ltb}
 use lib.ListN.{length}
 use borrow.Author.Tests.{leb-true, le-leb, ltb-true, lt-ltb, eqb-false, ne-eqb, not-true}
-use Rattle.lists.specs.All.{All, all, all-map, all-true, true-all}
+use Rattle.lists.specs.All.{all-map, all-true, true-all}
 use Rattle.lists.specs.Sorted.{rises-true, true-rises}
-use Rattle.networks.specs.Network.{Box, Input, Wire, Network, ids, wireKey, boxId, ownBoxes, inputs, hasBox, owns}
+use Rattle.networks.specs.Network.{Box, Input, Wire, Network, ids, wireKey, boxId, ownBoxes, inputs}
 use Rattle.networks.specs.Sound.{Bounds, Joined, Sound, sends, hold, joinedTests, soundTests, sound}
 
 module _ {R P D : Type 0} (N : Network R P D) where

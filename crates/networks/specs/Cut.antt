@@ -8,7 +8,7 @@ use mathlib.Core.Path.{_≡_}
 use mathlib.Core.Bool.{Bool, true, false, cond, not, _&&_}
 use mathlib.Core.Logic.{_↔_}
 use mathlib.Core.Option.{Option, none, some, Option·map}
-use mathlib.Core.List.{List, [], _∷_, filterMap}
+use mathlib.Core.List.{filterMap}
 use Prim.Native.Nat.{ℕ}
 use lib.Dec.{eqb}
 use Rattle.lists.specs.All.{All, any}

@@ -3,7 +3,7 @@
 --     Verdict, judge      the answer, with the number of own boxes judged
 --     upTo, judged       the judged count: of a named box, and of every answer
 use mathlib.Core.Path.{_≡_}
-use mathlib.Core.Bool.{Bool, true, false, not}
+use mathlib.Core.Bool.{Bool, false, not}
 use mathlib.Core.Option.{Option, none, some, Option·getD}
 use mathlib.Core.List.{List, [], _∷_}
 use Prim.Native.Nat.{ℕ, suc}

@@ -1,6 +1,6 @@
 -- Two lists that agree on the own boxes of a network, step by step through the judge.
 use mathlib.Core.Path.{_≡_, refl, ap, ap₂, fun-ext}
-use mathlib.Core.Bool.{Bool, cond, not}
+use mathlib.Core.Bool.{cond, not}
 use mathlib.Core.Option.{Option, none, some, Option·getD}
 use mathlib.Core.List.{List, [], _∷_}
 use Prim.Native.Nat.{ℕ, suc}
@@ -8,8 +8,8 @@ use Rattle.lists.specs.All.{All}
 use Rattle.networks.specs.Algebra.{Algebra}
 use Rattle.networks.specs.Network.{Own, Box, own, input, NetworkOver, ownBoxes, box}
 use Rattle.networks.specs.Sheets.{RouteList, listed}
-use Rattle.networks.specs.Answer.{given, refuse, lowest, isSome, unentered}
-use Rattle.networks.specs.Solution.{routeOf, neighbour, due, mapping}
+use Rattle.networks.specs.Answer.{given, refuse, lowest, isSome}
+use Rattle.networks.specs.Solution.{routeOf, due, mapping}
 use Rattle.networks.specs.Judge.{Finding, Verdict, firstFinding, fault, stop, verdictFrom, judge}
 use Rattle.networks.proofs.Laws.Boxes.{own-found}
 

@@ -4,14 +4,14 @@
 --     own-rise                 own boxes stand by rising id
 --     owned, own-fact, own-any     from `owns` to the own box, to what every own box has, and to a test that some own box meets
 use mathlib.Core.Path.{_≡_, refl, sym, ap, _∙_, subst}
-use mathlib.Core.Bool.{Bool, true, false, false≢true}
+use mathlib.Core.Bool.{Bool, true, false≢true}
 use mathlib.Core.Option.{Option, none, some}
-use mathlib.Core.List.{List, filterMap}
+use mathlib.Core.List.{filterMap}
 use Prim.Native.Nat.{ℕ}
 use Rattle.lists.specs.All.{All, all-map, any, any-here}
 use Rattle.lists.specs.Filter.{some-inj, none-some, all-filterMap, filterMap-all}
 use Rattle.lists.specs.Sorted.{Rises, rises-filterMap, find-key, find-all, find-self}
-use Rattle.networks.specs.Network.{Own, Input, Box, own, input, Network, boxId, asOwn, asInput, isBox, isOwn, ownBoxes, inputs, box, hasBox, owns}
+use Rattle.networks.specs.Network.{Own, Input, Box, own, input, Network, boxId, asOwn, asInput, isOwn, ownBoxes, inputs, box, owns}
 
 -- one kind of box, and the box that each of the kind is
 module _ {A R P D : Type 0} (N : Network R P D) (kind : Box R D → Option A) (make : A → Box R D) (same : (x : A) → kind (make x) ≡ some x) (only : (v : Box R D) (x : A) → kind v ≡ some x → v ≡ make x) where

@@ -19,7 +19,7 @@ use Rattle.networks.specs.Algebra.{Algebra}
 use Rattle.networks.specs.Network.{Own, Network, ownBoxes, owns}
 use Rattle.networks.specs.Sound.{Bounds, Sound}
 use Rattle.networks.specs.Sheets.{Sheet, number, note}
-use Rattle.networks.specs.Answer.{Answer, given, refused, refuse, lowest, isSome, Entered, unentered}
+use Rattle.networks.specs.Answer.{given, refused, refuse, lowest, isSome, Entered, unentered}
 use Rattle.networks.specs.Cut.{leaves, fragment, numbered, offNote, clashes, cut, Cuts}
 use Rattle.networks.proofs.Laws.Boxes.{own-any}
 use Rattle.networks.proofs.Laws.Answers.{lowest-none, none-lowest, given-same, refused-given, refused-number, refuse-given, entered-none, none-entered}

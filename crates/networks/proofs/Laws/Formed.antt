@@ -2,18 +2,17 @@
 --     Formed, sound-formed          the two facts
 --     leaves-own, feeds-leaves      cut wires, where every wire leads to an own box
 --     owns-fragment, fragment-formed
-use mathlib.Core.Path.{_≡_, refl, sym, ap, ap₂, _∙_, subst}
-use mathlib.Core.Bool.{Bool, true, false, cond, not, _&&_, false≢true, true≢false}
+use mathlib.Core.Path.{_≡_, refl, sym, ap, _∙_}
+use mathlib.Core.Bool.{Bool, true, false, cond, not, _&&_, true≢false}
 use mathlib.Core.Option.{Option, none, some, Option·map, bind}
-use mathlib.Core.List.{List}
 use Prim.Native.Nat.{ℕ}
 use lib.Dec.{eqb}
 use borrow.Author.Tests.{eqb-true, eq-eqb, ne-eqb}
 use Rattle.lists.specs.Test.{and-l, and-r, and-i}
 use Rattle.lists.specs.All.{All, all-map, all-both, any, any-congr, any-mono, any-here}
-use Rattle.lists.specs.Filter.{filter, all-filter}
+use Rattle.lists.specs.Filter.{all-filter}
 use Rattle.lists.specs.Sorted.{Rises, find-key}
-use Rattle.networks.specs.Network.{Own, Box, own, input, Wire, Network, boxId, isBox, isOwn, ownBoxes, box, hasBox, owns}
+use Rattle.networks.specs.Network.{Own, Box, own, input, Wire, Network, boxId, isBox, isOwn, box, hasBox, owns}
 use Rattle.networks.specs.Sound.{Bounds, Joined, Sound}
 use Rattle.networks.specs.Sheets.{Sheet, number, note}
 use Rattle.networks.specs.Answer.{isSome, Entered}

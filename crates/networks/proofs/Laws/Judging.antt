@@ -1,12 +1,12 @@
 -- The judge's answer, taken apart.
 --     mapping-own, mapping-input         what a list maps each box to
 --     fault-none, none-fault             no fault at a box is the three facts about it
---     verdict-pass, pass-verdict         a pass is no fault anywhere, with every box counted
+--     pass-verdict, verdict-pass         a pass is no fault anywhere, with every box counted
 --     verdict-found                      a finding is the first fault, with the boxes up to it counted
 --     judge-given, passes-solved         the same of the judge's answer
-use mathlib.Core.Path.{_≡_, refl, sym, ap, ap₂, _∙_, subst}
-use mathlib.Core.Bool.{Bool, true, false, cond, not}
-use mathlib.Core.Option.{Option, none, some, Option·getD}
+use mathlib.Core.Path.{_≡_, refl, sym, ap, _∙_, subst}
+use mathlib.Core.Bool.{true, false, not}
+use mathlib.Core.Option.{Option, none, some}
 use mathlib.Core.Logic.{_↔_}
 use mathlib.Core.List.{List, [], _∷_}
 use Prim.Native.Nat.{ℕ, suc, _+_, _≤_, _<_}
@@ -20,11 +20,11 @@ use Rattle.lists.specs.All.{All, all-map, all-both}
 use Rattle.lists.specs.Filter.{some-inj, none-some, filter}
 use Rattle.lists.specs.Sorted.{Rises, filter-low}
 use Rattle.networks.specs.Algebra.{Algebra}
-use Rattle.networks.specs.Network.{Own, Input, Box, own, input, Network, boxId, ownBoxes, inputs, box}
+use Rattle.networks.specs.Network.{Own, Input, own, input, Network, boxId, ownBoxes, inputs, box}
 use Rattle.networks.specs.Sheets.{RouteList, listed}
-use Rattle.networks.specs.Answer.{given, refuse, Entered, unentered}
-use Rattle.networks.specs.Solution.{routeOf, neighbour, due, mapping, Solution, Demands}
-use Rattle.networks.specs.Judge.{Finding, Verdict, pass, found, held, breaks, firstFinding, fault, stop, verdictFrom, judge, Passes}
+use Rattle.networks.specs.Answer.{given, Entered, unentered}
+use Rattle.networks.specs.Solution.{due, mapping, Solution, Demands}
+use Rattle.networks.specs.Judge.{Finding, Verdict, pass, found, held, breaks, fault, stop, verdictFrom, judge, Passes}
 use Rattle.networks.proofs.Laws.Boxes.{own-there, input-there}
 use Rattle.networks.proofs.Laws.Answers.{entered-none, none-entered, given-same, refuse-given}
 
@@ -70,21 +70,21 @@ module _ (𝓐 : Algebra) where
     none-fault b e f t = rw (equal _ _ e, kept (b .promise) _ f, t) refl
 
     -- the verdict
+    pub pass-verdict : (c m : ℕ) (bs : List (Own Route Demand)) → verdictFrom 𝓐 N L c bs ≡ pass m → All (λ (b : Own Route Demand). fault 𝓐 N L b ≡ none) bs × (m ≡ c + length bs)
+    unfolding verdictFrom
+    pass-verdict c m [] e = (tt, let z : m ≡ c = cc in omega arith)
+    pass-verdict c m (b ∷ bs) e = go _ (fault 𝓐 N L b) refl e (pass-verdict (suc c) m bs)
+      where
+        go : (count : ℕ) (o : Option (Finding Route)) → fault 𝓐 N L b ≡ o → stop 𝓐 o (b .id) count (verdictFrom 𝓐 N L (suc c) bs) ≡ pass m
+            → (verdictFrom 𝓐 N L (suc c) bs ≡ pass m → All (λ (d : Own Route Demand). fault 𝓐 N L d ≡ none) bs × (m ≡ suc c + length bs))
+            → ((fault 𝓐 N L b ≡ none) × All (λ (d : Own Route Demand). fault 𝓐 N L d ≡ none) bs) × (m ≡ c + suc (length bs))
+        go count none q z r = let s = r z in ((q, s .0), let y : m ≡ suc c + length bs = s .1 in omega arith)
+        go count (some f) q z r = absurd (let y : _≡_ {A = ℕ} 0 1 = cc in omega arith)
+
     pub verdict-pass : (c : ℕ) (bs : List (Own Route Demand)) → All (λ (b : Own Route Demand). fault 𝓐 N L b ≡ none) bs → verdictFrom 𝓐 N L c bs ≡ pass (c + length bs)
     unfolding verdictFrom
     verdict-pass c [] h = ap pass (sym (add-zero c))
     verdict-pass c (b ∷ bs) h = rw (h .0) (verdict-pass (suc c) bs (h .1) ∙ ap pass (omega arith))
-
-    pub pass-verdict : (c m : ℕ) (bs : List (Own Route Demand)) → verdictFrom 𝓐 N L c bs ≡ pass m → All (λ (b : Own Route Demand). fault 𝓐 N L b ≡ none) bs × (m ≡ c + length bs)
-    unfolding verdictFrom
-    pass-verdict c m [] e = (tt, let z : m ≡ c = cc in omega arith)
-    pass-verdict c m (b ∷ bs) e = go (fault 𝓐 N L b) refl e (pass-verdict (suc c) m bs)
-      where
-        go : (o : Option (Finding Route)) → fault 𝓐 N L b ≡ o → stop 𝓐 o (b .id) (suc c) (verdictFrom 𝓐 N L (suc c) bs) ≡ pass m
-            → (verdictFrom 𝓐 N L (suc c) bs ≡ pass m → All (λ (d : Own Route Demand). fault 𝓐 N L d ≡ none) bs × (m ≡ suc c + length bs))
-            → ((fault 𝓐 N L b ≡ none) × All (λ (d : Own Route Demand). fault 𝓐 N L d ≡ none) bs) × (m ≡ c + suc (length bs))
-        go none q z r = let s = r z in ((q, s .0), let y : m ≡ suc c + length bs = s .1 in omega arith)
-        go (some f) q z r = absurd (let y : _≡_ {A = ℕ} 0 1 = cc in omega arith)
 
     -- a finding: the box, what is found there, that nothing is found before, and the count
     pub record First (n i : ℕ) (r : Route) (c m lo : ℕ) (bs : List (Own Route Demand)) : Type 1 where

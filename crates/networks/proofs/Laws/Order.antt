@@ -2,7 +2,7 @@
 --     at-least-..      it is a total order, with no route as the worst
 --     bestOf-..        the best of several is at least as good as each, and is one of them
 use mathlib.Core.Path.{_≡_, refl, sym, ap, _∙_}
-use mathlib.Core.Bool.{Bool, true, _||_}
+use mathlib.Core.Bool.{true}
 use mathlib.Core.List.{List, [], _∷_}
 use mathlib.Core.Logic.{_⊎_, inl, inr, ⊎-elim}
 use Rattle.lists.specs.Test.{or-i-l, or-i-r}

@@ -2,22 +2,22 @@
 --     piece-id, pieces-rise, box-piece        its boxes
 --     own-boxes-fragment, own-kept, kept-own      its own boxes
 --     inputs-kept, kept-inputs                its inputs
---     wires-into-fragment, sends-fragment     its wires
+--     sends-fragment, wires-into-fragment     its wires
 use mathlib.Core.Path.{_≡_, refl, sym, ap, _∙_, subst}
-use mathlib.Core.Bool.{Bool, true, false, cond, _&&_, and-comm}
+use mathlib.Core.Bool.{Bool, true, false, cond, and-comm}
 use mathlib.Core.Option.{Option, none, some, Option·map, bind}
-use mathlib.Core.List.{List, map, filterMap, filterMap-filterMap}
+use mathlib.Core.List.{map, filterMap-filterMap}
 use Prim.Native.Nat.{ℕ}
 use lib.Dec.{eqb}
 use borrow.Author.Tests.{eqb-true}
 use Rattle.lists.specs.Test.{and-absorb}
-use Rattle.lists.specs.All.{All, all-map, all-both, all-of, any, any-congr}
+use Rattle.lists.specs.All.{All, all-map, all-both, all-of, any-congr}
 use Rattle.lists.specs.Filter.{some-inj, none-some, filter, filter-filter, filter-congr, any-filter, all-filter, filtered-all, all-mapped, mapped-all, map-filter, filterMap-congr, all-filterMap, filterMap-all}
 use Rattle.lists.specs.Sorted.{Rises, rises-filterMap, find-filterMap}
 use Rattle.networks.specs.Network.{Own, Input, Box, own, input, Wire, Network, boxId, asOwn, asInput, ownBoxes, inputs, box, wiresInto}
 use Rattle.networks.specs.Sound.{sends}
 use Rattle.networks.specs.Sheets.{Sheet, number, note}
-use Rattle.networks.specs.Cut.{leaves, feeds, promising, assuming, piece, fragmentOf}
+use Rattle.networks.specs.Cut.{feeds, promising, assuming, piece, fragmentOf}
 
 module _ {R P D : Type 0} (N : Network R P D) (S : Sheet R) (κ : ℕ → Bool) where
   -- what is kept of a box has its id
@@ -113,16 +113,16 @@ module _ {R P D : Type 0} (N : Network R P D) (S : Sheet R) (κ : ℕ → Bool) 
       at (own b) f a e t = absurd (none-some e)
       at (input c) f a e t = subst Q (some-inj e) (f (input c) (rw (ap (λ (d : Input R). feeds N S κ (d .id)) (some-inj e) ∙ t) refl) c refl)
 
-  -- wires
-  pub wires-into-fragment : (i : ℕ) → κ (number S i) ≡ true → wiresInto (fragmentOf N S κ) i ≡ wiresInto N i
-  unfolding fragmentOf
-  wires-into-fragment i t =
-      filter-filter (λ (w : Wire). κ (number S (w .to))) (λ (w : Wire). eqb (w .to) i) (N .wires)
-      ∙ filter-congr _ _ (N .wires) (all-of (N .wires) (λ w. and-absorb _ _ (λ e. ap (λ (j : ℕ). κ (number S j)) (eqb-true (w .to) i e) ∙ t)))
-
-  -- a wire of the fragment leads out of exactly the boxes that feed it
+  -- wires: one of the fragment leads out of exactly the boxes that feed it
   pub sends-fragment : (i : ℕ) → sends (fragmentOf N S κ) i ≡ feeds N S κ i
   unfolding fragmentOf feeds
   sends-fragment i =
       any-filter (λ (w : Wire). κ (number S (w .to))) (λ (w : Wire). eqb (w .from) i) (N .wires)
       ∙ any-congr _ _ (N .wires) (all-of (N .wires) (λ w. and-comm (κ (number S (w .to))) (eqb (w .from) i)))
+
+  -- an own box keeps its wires
+  pub wires-into-fragment : (i : ℕ) → κ (number S i) ≡ true → wiresInto (fragmentOf N S κ) i ≡ wiresInto N i
+  unfolding fragmentOf
+  wires-into-fragment i t =
+      filter-filter (λ (w : Wire). κ (number S (w .to))) (λ (w : Wire). eqb (w .to) i) (N .wires)
+      ∙ filter-congr _ _ (N .wires) (all-of (N .wires) (λ w. and-absorb _ _ (λ e. ap (λ (j : ℕ). κ (number S j)) (eqb-true (w .to) i e) ∙ t)))

@@ -5,27 +5,24 @@
 --     edge-at                   edges
 use mathlib.Core.Path.{_≡_, refl, sym, ap, ap₂, _∙_, subst}
 use mathlib.Core.Bool.{Bool, true, false, cond, not, _&&_, _||_, or-false, false≢true, true≢false}
-use mathlib.Core.Option.{Option, none, some, Option·map, bind}
+use mathlib.Core.Option.{Option, none, some, bind}
 use Prim.Native.Nat.{ℕ}
 use lib.Dec.{eqb}
 use borrow.Author.Tests.{eqb-true, eqb-false, eq-eqb, ne-eqb, not-true}
-use Rattle.lists.specs.Test.{and-l, and-r, and-i, or-i-l, or-i-r, same-test}
-use Rattle.lists.specs.All.{All, all-map, all-of, all-both, any, any-congr, any-mono, any-found, false-any}
+use Rattle.lists.specs.Test.{and-l, and-r, and-i, or-i-l, same-test}
+use Rattle.lists.specs.All.{all-map, all-of, any, any-congr, any-mono, any-found, false-any}
 use Rattle.lists.specs.Filter.{any-filter}
 use Rattle.lists.specs.Sorted.{find-key}
-use Rattle.networks.specs.Algebra.{Algebra}
-use Rattle.networks.specs.Network.{Own, Input, Box, own, input, Wire, Network, boxId, isBox, isOwn, ownBoxes, box, hasBox, owns}
-use Rattle.networks.specs.Sound.{Bounds, Sound, Joined}
+use Rattle.networks.specs.Network.{Own, Input, Box, own, input, Wire, Network, boxId, isBox, isOwn, box, hasBox, owns}
+use Rattle.networks.specs.Sound.{Joined}
 use Rattle.networks.specs.Sheets.{Sheet, number, note}
 use Rattle.networks.specs.Answer.{isSome, Entered}
-use Rattle.networks.specs.Solution.{trans}
-use Rattle.networks.specs.Cut.{promised, assuming, isCut, leaves, feeds, promising, piece, fragmentOf, fragment, Cuts}
-use Rattle.networks.specs.Paper.{initialOf, assumedOf, promiseOf, init, ass, guar, V-in, V-out, E, W, wiredInto, cutInto, V-in-k, V-out-k, V-k, E-k, ass-k, guar-k, AgreesWithPaper}
+use Rattle.networks.specs.Cut.{promised, assuming, isCut, leaves, feeds, promising, piece, fragmentOf, fragment}
+use Rattle.networks.specs.Paper.{assumedOf, init, ass, guar, V-in, V-out, E, W, wiredInto, cutInto, V-in-k, V-out-k, V-k, E-k, ass-k, guar-k}
 use Rattle.networks.proofs.Laws.Boxes.{own-found}
 use Rattle.networks.proofs.Laws.Pieces.{box-piece}
 use Rattle.networks.proofs.Laws.Answers.{isSome-true}
-use Rattle.networks.proofs.Laws.Formed.{Formed, sound-formed, fragment-formed}
-use Rattle.networks.proofs.Laws.Cutting.{Fits, cuts-fits}
+use Rattle.networks.proofs.Laws.Formed.{Formed, fragment-formed}
 
 -- what holds at every id: it has no box, an input or an own box
 by-box : {R P D : Type 0} (N : Network R P D) (Q : ℕ → Type 0)

@@ -4,21 +4,20 @@
 --     first-fits, second-fits     where Z fits the network, X fits it, and Y fits the fragments by X
 --     recut                       the fragments are equal
 --     both-numbered               the own boxes that are in both
-use mathlib.Core.Path.{_≡_, refl, sym, ap, ap₂, _∙_, subst}
+use mathlib.Core.Path.{_≡_, refl, sym, ap, ap₂, _∙_}
 use mathlib.Core.Bool.{Bool, true, false, cond, not, _&&_, _||_, false≢true}
 use mathlib.Core.Option.{Option, none, some, Option·map, bind}
-use mathlib.Core.List.{List, filterMap, filterMap-filterMap}
+use mathlib.Core.List.{filterMap, filterMap-filterMap}
 use Prim.Native.Nat.{ℕ}
 use lib.Dec.{eqb}
 use borrow.Author.Tests.{eqb-true, eq-eqb}
 use Rattle.lists.specs.Test.{and-l, and-r, and-i, same-test}
 use Rattle.lists.specs.All.{All, all-map, all-both, any, any-congr, any-mono, any-or}
-use Rattle.lists.specs.Filter.{some-inj, none-some, filter, filter-filter, filter-congr, any-filter, any-mapped, filterMap-congr}
+use Rattle.lists.specs.Filter.{none-some, filter, filter-filter, filter-congr, any-filter, any-mapped, filterMap-congr}
 use Rattle.lists.specs.Sorted.{find-self}
-use Rattle.networks.specs.Network.{Own, Box, own, input, Wire, Network, boxId, isOwn, ownBoxes, box, owns}
-use Rattle.networks.specs.Sound.{Joined}
+use Rattle.networks.specs.Network.{Own, Box, own, input, Wire, Network, boxId, isOwn, ownBoxes, owns}
 use Rattle.networks.specs.Sheets.{Sheet, number, note}
-use Rattle.networks.specs.Answer.{isSome, Entered}
+use Rattle.networks.specs.Answer.{isSome}
 use Rattle.networks.specs.Cut.{promised, assuming, leaves, feeds, promising, piece, fragmentOf, fragment, numbered, Third}
 use Rattle.networks.proofs.Laws.Boxes.{own-there, own-fact}
 use Rattle.networks.proofs.Laws.Pieces.{own-boxes-fragment, own-kept}

@@ -7,18 +7,17 @@
 --     fragment-solved                and back
 use mathlib.Core.Path.{_≡_, refl, sym, ap, _∙_, subst}
 use mathlib.Core.Bool.{Bool, true, false, _&&_, false≢true}
-use mathlib.Core.Logic.{_↔_}
 use mathlib.Core.Option.{Option, none, some}
 use mathlib.Core.List.{List, map}
 use Prim.Native.Nat.{ℕ}
 use lib.Dec.{eqb}
 use borrow.Author.Tests.{eqb-true, eq-eqb}
 use Rattle.lists.specs.Test.{and-i}
-use Rattle.lists.specs.All.{All, all-map, all-both, all-each, any, any-found, any-here}
-use Rattle.lists.specs.Filter.{some-inj, none-some, filter, all-filter, map-congr}
+use Rattle.lists.specs.All.{All, all-map, all-both, all-each, any-found, any-here}
+use Rattle.lists.specs.Filter.{some-inj, none-some, all-filter, map-congr}
 use Rattle.networks.specs.Algebra.{Algebra}
-use Rattle.networks.specs.Network.{Own, Input, Box, own, input, Wire, Network, isBox, isOwn, ownBoxes, inputs, box, hasBox, owns, wiresInto}
-use Rattle.networks.specs.Sound.{Joined, sends}
+use Rattle.networks.specs.Network.{Own, Input, Wire, Network, isBox, isOwn, ownBoxes, inputs, hasBox, wiresInto}
+use Rattle.networks.specs.Sound.{sends}
 use Rattle.networks.specs.Sheets.{Sheet, number, note}
 use Rattle.networks.specs.Answer.{isSome}
 use Rattle.networks.specs.Solution.{trans, bestOf, due, Solution}
@@ -41,17 +40,17 @@ pub anywhere : {R P D : Type 0} (N : Network R P D) (S : Sheet R) (Q : ℕ → O
 anywhere N S Q h k =
     own-kept N S (λ (n : ℕ). eqb n k) (Q k) (all-map (ownBoxes N) (λ b f e. subst (λ (n : ℕ). Q n (promising N S b)) (eqb-true (number S (b .id)) k e) f) h)
 
--- a promise in a fragment: the note where a cut wire leaves, and the network's own
+-- a promise in a fragment: the network's own, and the note where a cut wire leaves
+promised-own : {R : Type 0} (x : R) (p n : Option R) (left : Bool) → ((q : R) → promised p left n ≡ some q → x ≡ q) → (q : R) → p ≡ some q → x ≡ q
+promised-own x none n left g q e = absurd (none-some e)
+promised-own x (some y) n left g q e = g q e
+
 pub promised-note : {R : Type 0} (x : R) (p n : Option R) (left : Bool) → left ≡ true → isSome n ≡ true → ((q : R) → p ≡ some q → n ≡ some q)
     → ((q : R) → promised p left n ≡ some q → x ≡ q) → some x ≡ n
 promised-note x none none true l s f g = absurd (false≢true s)
 promised-note x none (some n) true l s f g = ap some (g n refl)
 promised-note x none n false l s f g = absurd (false≢true l)
 promised-note x (some q) n left l s f g = ap some (g q refl) ∙ sym (f q refl)
-
-promised-own : {R : Type 0} (x : R) (p n : Option R) (left : Bool) → ((q : R) → promised p left n ≡ some q → x ≡ q) → (q : R) → p ≡ some q → x ≡ q
-promised-own x none n left g q e = absurd (none-some e)
-promised-own x (some y) n left g q e = g q e
 
 own-promised : {R : Type 0} (x : R) (p n : Option R) (left : Bool) → (left ≡ true → some x ≡ n) → ((q : R) → p ≡ some q → x ≡ q) → (q : R) → promised p left n ≡ some q → x ≡ q
 own-promised x none n true f g q e = some-inj (f refl ∙ e)

@@ -1,26 +1,22 @@
 -- A sound network whose own boxes all have one number.
 --     none-leaves, all-feed     no wire is cut, and every input feeds the fragment
 --     same-network              the fragment is the network
-use mathlib.Core.Path.{_≡_, refl, sym, ap, ap₂, _∙_}
-use mathlib.Core.Bool.{Bool, true, false, not, _&&_, and-false, true≢false}
+use mathlib.Core.Path.{_≡_, refl, sym, ap, _∙_}
+use mathlib.Core.Bool.{Bool, true, false, not, _&&_, and-false}
 use mathlib.Core.Option.{Option, none, some}
 use mathlib.Core.List.{filterMap}
 use Prim.Native.Nat.{ℕ}
 use lib.Dec.{eqb}
 use borrow.Author.Tests.{eq-eqb}
 use Rattle.lists.specs.Test.{and-i}
-use Rattle.lists.specs.All.{All, all-map, all-both, all-any, any, any-mono, false-any}
-use Rattle.lists.specs.Filter.{filter, filter-all, filterMap-self, all-filterMap, filterMap-all}
-use Rattle.lists.specs.Sorted.{find-self}
-use Rattle.networks.specs.Algebra.{Algebra}
-use Rattle.networks.specs.Network.{Own, Input, Box, own, input, Wire, Network, boxId, asOwn, asInput, isOwn, ownBoxes, inputs, owns}
-use Rattle.networks.specs.Sound.{Bounds, Sound, Joined, sends}
+use Rattle.lists.specs.All.{All, all-map, all-both, any-mono, false-any}
+use Rattle.lists.specs.Filter.{filter, filter-all, filterMap-self, filterMap-all}
+use Rattle.networks.specs.Network.{Own, Input, Box, own, input, Wire, Network, asOwn, asInput, isOwn, ownBoxes, inputs, owns}
+use Rattle.networks.specs.Sound.{Bounds, Sound}
 use Rattle.networks.specs.Sheets.{Sheet, number, note}
-use Rattle.networks.specs.Answer.{given, isSome, Entered}
-use Rattle.networks.specs.Cut.{promised, leaves, feeds, promising, piece, fragmentOf, fragment, numbered, cut}
+use Rattle.networks.specs.Cut.{promised, leaves, feeds, piece, fragmentOf, fragment}
 use Rattle.networks.proofs.Laws.Boxes.{own-there, own-fact}
-use Rattle.networks.proofs.Laws.Formed.{Formed, sound-formed, leaves-own}
-use Rattle.networks.proofs.Laws.Cutting.{Fits, cut-answer}
+use Rattle.networks.proofs.Laws.Formed.{sound-formed, leaves-own}
 
 module _ {R P D : Type 0} (B : Bounds) (N : Network R P D) (S : Sheet R) (k : ℕ) (sound : Sound B N) (one : All (λ (b : Own R D). number S (b .id) ≡ k) (ownBoxes N)) where
   numbered-k : (i : ℕ) → owns N i ≡ true → number S i ≡ k

@@ -1,7 +1,7 @@
 -- Wires stand by their to end, then by their from end: what the key of a wire says where ids are ids.
 use mathlib.Core.Path.{_≡_}
 use mathlib.Core.Logic.{_↔_, _⊎_, inl, inr, ⊎-elim}
-use Prim.Native.Nat.{ℕ, _+_, _*_, _<_, _≤_}
+use Prim.Native.Nat.{_<_, _≤_}
 use native.Mathlib.Omega.{arith}
 use Rattle.lists.specs.Test.{le-or-lt}
 use Rattle.networks.specs.Network.{Wire, ids, wireKey}
