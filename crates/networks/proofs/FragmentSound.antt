@@ -7,7 +7,7 @@ use Rattle.networks.specs.Network.{NetworkOver}
 use Rattle.networks.specs.Sound.{Bounds, Sound, NoMore}
 use Rattle.networks.specs.Sheets.{Sheet}
 use Rattle.networks.specs.Answer.{given}
-use Rattle.networks.specs.Cut.{cut}
+use Rattle.networks.specs.Cut.{only, cut}
 use Rattle.networks.proofs.Laws.Cutting.{cut-given}
 use Rattle.networks.proofs.Laws.Soundness.{fragment-less, fragment-sound}
 
@@ -15,4 +15,4 @@ pub cut-sound : (𝓐 : Algebra) (B : Bounds) (N F : NetworkOver 𝓐) (S : Shee
     → Sound B N → cut 𝓐 N S k ≡ given F → Sound B F × NoMore F N
 cut-sound 𝓐 B N F S k sound e =
     let c = cut-given 𝓐 N S k F e in
-    rw (← c .2) (fragment-sound N S B k sound (c .0 .entered) (c .1), fragment-less N S (λ (n : ℕ). eqb n k))
+    rw (← c .2) (fragment-sound N S B k sound (c .0 .entered) (c .1), fragment-less N S (only k))

@@ -12,7 +12,7 @@ use Rattle.networks.specs.Network.{Own, NetworkOver, isBox, ownBoxes, ha
 use Rattle.networks.specs.Sound.{Bounds, Sound}
 use Rattle.networks.specs.Sheets.{Sheet}
 use Rattle.networks.specs.Solution.{Solution, Holds}
-use Rattle.networks.specs.Cut.{fragment, Agrees, Cuts}
+use Rattle.networks.specs.Cut.{only, fragment, Agrees, Cuts}
 use Rattle.networks.proofs.FragmentsAndWhole.{solutions-and-whole}
 use Rattle.networks.proofs.Laws.Boxes.{own-there}
 use Rattle.networks.proofs.Laws.Formed.{Formed, sound-formed, fragment-formed}
@@ -26,7 +26,7 @@ module _ (𝓐 : Algebra) (B : Bounds) (N : NetworkOver 𝓐) (S : Sheet (𝓐 .
   MadeUp ℒ parts = (k i : ℕ) → hasBox (fragment N S k) i ≡ true → ℒ i ≡ parts k i
 
   formed : (k : ℕ) → Formed (fragment N S k)
-  formed k = fragment-formed N S (sound-formed B N sound) (λ (n : ℕ). eqb n k) (((cuts-fits 𝓐 N S B sound) .0 cuts) .entered)
+  formed k = fragment-formed N S (sound-formed B N sound) (only k) (((cuts-fits 𝓐 N S B sound) .0 cuts) .entered)
 
   -- Fragment solutions are not spurious.
   pub theorem-IV-1 : (ℒ : ℕ → Route) (parts : ℕ → ℕ → Route) → MadeUp ℒ parts → ((k : ℕ) → Solution 𝓐 (fragment N S k) (parts k)) → Solution 𝓐 N ℒ

@@ -1,9 +1,9 @@
 -- Cutting (document 01; document 000, definitions IV.2 and IV.3, with the edges mended and one note a box).
 --     isCut, leaves, feeds     cut wires; the boxes that they leave; the boxes with a wire into a fragment
---     promised .. piece         what a fragment keeps of a box
+--     promised .. piece        what a fragment keeps of a box
 --     fragmentOf, fragment     the fragment of a set of numbers, and of one number
 --     cut, cutTwice, Cuts      the cutter's answer; one cut upon another; a sheet cuts a network
---     Agrees, Third             what demand 3 asks of a list and of three sheets
+--     Agrees, Third            what demand 3 asks of a list and of three sheets
 use mathlib.Core.Path.{_≡_}
 use mathlib.Core.Bool.{Bool, true, false, cond, not, _&&_}
 use mathlib.Core.Logic.{_↔_}
@@ -23,6 +23,10 @@ abbrev pub promised : {R : Type 0} → Option R → Bool → Option R → Option
 promised (some q) left note = some q
 promised none true note = note
 promised none false note = none
+
+-- the set of one number
+abbrev pub only : ℕ → ℕ → Bool
+only k n = eqb n k
 
 -- an own box in a fragment that it feeds and is not in: an input that is assumed to hold the note
 abbrev pub assuming : {R D : Type 0} → Own R D → R → Box R D
@@ -65,7 +69,7 @@ module _ {R P D : Type 0} (N : Network R P D) (S : Sheet R) where
   }
 
   abbrev pub fragment : ℕ → Network R P D
-  fragment k = fragmentOf (λ (n : ℕ). eqb n k)
+  fragment k = fragmentOf (only k)
 
   -- the own box is in fragment k
   abbrev pub numbered : ℕ → Own R D → Bool

@@ -13,7 +13,7 @@ use Rattle.networks.specs.Network.{Own, Box, own, input, NetworkOver, is
 use Rattle.networks.specs.Sheets.{Sheet, RouteList, number, note, listed}
 use Rattle.networks.specs.Solution.{routeOf, mapping}
 use Rattle.networks.specs.Judge.{verdictFrom, judge, Passes}
-use Rattle.networks.specs.Cut.{leaves, feeds, promising, assuming, piece, fragment, numbered, Agrees}
+use Rattle.networks.specs.Cut.{only, leaves, feeds, promising, assuming, piece, fragment, numbered, Agrees}
 use Rattle.networks.proofs.Laws.Boxes.{own-found, own-there}
 use Rattle.networks.proofs.Laws.Pieces.{box-piece, own-boxes-fragment}
 use Rattle.networks.proofs.Laws.Formed.{Formed, feeds-leaves}
@@ -21,18 +21,15 @@ use Rattle.networks.proofs.Laws.Formed.{Formed, feeds-leaves}
 module _ (𝓐 : Algebra) (N : NetworkOver 𝓐) (S : Sheet (𝓐 .Route)) (L : RouteList (𝓐 .Route)) (k : ℕ) where
   open Algebra 𝓐 using (Route, Demand, noRoute)
 
-  abbrev among : ℕ → Bool
-  among n = eqb n k
-
   module _ (formed : Formed N) (agrees : Agrees N S (listed L)) where
     -- an own box that feeds the fragment from outside is left by a cut wire, so that its note is its listed route
-    kept-route : (i : ℕ) (v : Box Route Demand) → box N i ≡ some v → isBox (piece N S among v) ≡ true → routeOf L (piece N S among v) ≡ routeOf L (some v)
-    kept-route i (input a) q = go (feeds N S among (a .id))
+    kept-route : (i : ℕ) (v : Box Route Demand) → box N i ≡ some v → isBox (piece N S (only k) v) ≡ true → routeOf L (piece N S (only k) v) ≡ routeOf L (some v)
+    kept-route i (input a) q = go (feeds N S (only k) (a .id))
       where
         go : (t : Bool) → isBox {R = Route} {D = Demand} (cond t (some (input a)) none) ≡ true → routeOf {R = Route} {D = Demand} L (cond t (some (input a)) none) ≡ some (a .assumed)
         go true e = refl
         go false e = absurd (false≢true e)
-    kept-route i (own b) q = go (among (number S (b .id))) refl (feeds N S among (b .id)) refl (note S (b .id)) refl
+    kept-route i (own b) q = go (only k (number S (b .id))) refl (feeds N S (only k) (b .id)) refl (note S (b .id)) refl
       where
         owned : isOwn (box N (b .id)) ≡ true
         owned = ap isOwn (own-found N (λ (c : Own Route Demand). box N (c .id) ≡ some (own c)) i b (own-there N (formed .rise)) q)
@@ -40,23 +37,23 @@ module _ (𝓐 : Algebra) (N : NetworkOver 𝓐) (S : Sheet (𝓐 .Route)) (L : 
         noted : leaves N S (b .id) ≡ true → listed L (b .id) ≡ note S (b .id)
         noted = own-found N (λ (c : Own Route Demand). leaves N S (c .id) ≡ true → listed L (c .id) ≡ note S (c .id)) i b agrees q
 
-        go : (s : Bool) → among (number S (b .id)) ≡ s → (t : Bool) → feeds N S among (b .id) ≡ t → (n : Option Route) → note S (b .id) ≡ n
+        go : (s : Bool) → only k (number S (b .id)) ≡ s → (t : Bool) → feeds N S (only k) (b .id) ≡ t → (n : Option Route) → note S (b .id) ≡ n
             → isBox (cond s (some (own (promising N S b))) (cond t (Option·map (assuming b) n) none)) ≡ true
             → routeOf L (cond s (some (own (promising N S b))) (cond t (Option·map (assuming b) n) none)) ≡ listed L (b .id)
         go true c t f n m e = refl
         go false c true f none m e = absurd (false≢true e)
-        go false c true f (some n) m e = sym (noted (feeds-leaves N S formed among (b .id) owned c f) ∙ m)
+        go false c true f (some n) m e = sym (noted (feeds-leaves N S formed (only k) (b .id) owned c f) ∙ m)
         go false c false f n m e = absurd (false≢true e)
 
     pub kept-mapping : (i : ℕ) → hasBox (fragment N S k) i ≡ true → mapping 𝓐 (fragment N S k) L i ≡ mapping 𝓐 N L i
     unfolding mapping bind
-    kept-mapping i = rw (box-piece N S among (formed .rise) i) (go (box N i) refl)
+    kept-mapping i = rw (box-piece N S (only k) (formed .rise) i) (go (box N i) refl)
       where
-        go : (o : Option (Box Route Demand)) → box N i ≡ o → isBox (bind o (piece N S among)) ≡ true
-            → Option·getD (routeOf L (bind o (piece N S among))) noRoute ≡ Option·getD (routeOf L o) noRoute
+        go : (o : Option (Box Route Demand)) → box N i ≡ o → isBox (bind o (piece N S (only k))) ≡ true
+            → Option·getD (routeOf L (bind o (piece N S (only k)))) noRoute ≡ Option·getD (routeOf L o) noRoute
         go none q e = refl
         go (some v) q e = ap (λ (o : Option Route). Option·getD o noRoute) (kept-route i v q e)
 
   pub empty-passes : any (numbered N S k) (ownBoxes N) ≡ false → Passes 𝓐 (fragment N S k) L
   unfolding judge verdictFrom
-  empty-passes e = rw (own-boxes-fragment N S among, filter-none (numbered N S k) (ownBoxes N) e) refl
+  empty-passes e = rw (own-boxes-fragment N S (only k), filter-none (numbered N S k) (ownBoxes N) e) refl

@@ -17,7 +17,7 @@ use Rattle.networks.specs.Network.{Own, Input, Box, own, input, Wire, Ne
 use Rattle.networks.specs.Sound.{Joined}
 use Rattle.networks.specs.Sheets.{Sheet, number, note}
 use Rattle.networks.specs.Answer.{isSome, Entered}
-use Rattle.networks.specs.Cut.{promised, assuming, isCut, leaves, feeds, promising, piece, fragmentOf, fragment}
+use Rattle.networks.specs.Cut.{only, promised, assuming, isCut, leaves, feeds, promising, piece, fragmentOf, fragment}
 use Rattle.networks.specs.Paper.{assumedOf, init, ass, guar, V-in, V-out, E, W, wiredInto, cutInto, V-in-k, V-out-k, V-k, E-k, ass-k, guar-k}
 use Rattle.networks.proofs.Laws.Boxes.{own-found}
 use Rattle.networks.proofs.Laws.Pieces.{box-piece}
@@ -36,14 +36,11 @@ by-box {R} {P} {D} N Q f g h i = go (box N i) refl
     go (some (own b)) q = let e = find-key boxId i (N .boxes) (own b) q in subst Q e (h b (subst (λ (j : ℕ). box N j ≡ some (own b)) (sym e) q))
 
 module _ {R P D : Type 0} (N : Network R P D) (S : Sheet R) (k : ℕ) (formed : Formed N) (entered : Entered N (note S)) where
-  abbrev κ : ℕ → Bool
-  κ n = eqb n k
-
   abbrev F : Network R P D
   F = fragment N S k
 
   -- every wire leads to an own box
-  into-feeds : (u : ℕ) → wiredInto N S k u ≡ feeds N S κ u
+  into-feeds : (u : ℕ) → wiredInto N S k u ≡ feeds N S (only k) u
   unfolding feeds
   into-feeds u = any-congr _ _ (N .wires) (all-map (N .wires) (λ w h. rw (h .to-own) refl) (formed .joined))
 
@@ -53,16 +50,16 @@ module _ {R P D : Type 0} (N : Network R P D) (S : Sheet R) (k : ℕ) (formed : 
       at : (w : Wire) → Joined N w → eqb (w .from) u && (isCut N S w && W N S k (w .to)) ≡ false
       at w h = rw (h .to-own) (go (eqb (w .from) u) refl)
         where
-          go : (t : Bool) → eqb (w .from) u ≡ t → t && ((owns N (w .from) && not (eqb (number S (w .to)) (number S (w .from)))) && κ (number S (w .to))) ≡ false
+          go : (t : Bool) → eqb (w .from) u ≡ t → t && ((owns N (w .from) && not (eqb (number S (w .to)) (number S (w .from)))) && only k (number S (w .to))) ≡ false
           go false q = refl
           go true q = rw (eqb-true (w .from) u q, f) refl
 
-  cut-feeds : (u : ℕ) → owns N u ≡ true → cutInto N S k u ≡ not (κ (number S u)) && feeds N S κ u
+  cut-feeds : (u : ℕ) → owns N u ≡ true → cutInto N S k u ≡ not (only k (number S u)) && feeds N S (only k) u
   unfolding feeds
   cut-feeds u t = same-test _ _ forth back
     where
       parts : (w : Wire) → eqb (w .from) u && (isCut N S w && W N S k (w .to)) ≡ true
-          → (w .from ≡ u) × (not (eqb (number S (w .to)) (number S (w .from))) ≡ true) × (κ (number S (w .to)) ≡ true)
+          → (w .from ≡ u) × (not (eqb (number S (w .to)) (number S (w .from))) ≡ true) × (only k (number S (w .to)) ≡ true)
       parts w e =
           let i = and-r (eqb (w .from) u) (isCut N S w && W N S k (w .to)) e in
           let c = and-l (isCut N S w) (W N S k (w .to)) i in (
@@ -71,7 +68,7 @@ module _ {R P D : Type 0} (N : Network R P D) (S : Sheet R) (k : ℕ) (formed : 
             and-r (owns N (w .to)) _ (and-r (isCut N S w) (W N S k (w .to)) i),
           )
 
-      forth : cutInto N S k u ≡ true → not (κ (number S u)) && any (λ (w : Wire). eqb (w .from) u && κ (number S (w .to))) (N .wires) ≡ true
+      forth : cutInto N S k u ≡ true → not (only k (number S u)) && any (λ (w : Wire). eqb (w .from) u && only k (number S (w .to))) (N .wires) ≡ true
       forth e =
           let f = any-found (λ (w : Wire). eqb (w .from) u && (isCut N S w && W N S k (w .to))) (N .wires) (formed .joined) e in
           let w = f .0 in
@@ -80,16 +77,16 @@ module _ {R P D : Type 0} (N : Network R P D) (S : Sheet R) (k : ℕ) (formed : 
           (ap not (ne-eqb (number S u) k (λ q. eqb-false (number S (w .to)) (number S (w .from)) (not-true _ (g .1)) (eqb-true (number S (w .to)) k (g .2) ∙ sym q ∙ ap (number S) (sym (g .0))))))
           (any-mono _ _ (N .wires) (all-of (N .wires) (λ v h. let p = parts v h in and-i _ _ (eq-eqb (v .from) u (p .0)) (p .2))) e)
 
-      back : not (κ (number S u)) && any (λ (w : Wire). eqb (w .from) u && κ (number S (w .to))) (N .wires) ≡ true → cutInto N S k u ≡ true
-      back e = any-mono _ _ (N .wires) (all-map (N .wires) at (formed .joined)) (and-r (not (κ (number S u))) _ e)
+      back : not (only k (number S u)) && any (λ (w : Wire). eqb (w .from) u && only k (number S (w .to))) (N .wires) ≡ true → cutInto N S k u ≡ true
+      back e = any-mono _ _ (N .wires) (all-map (N .wires) at (formed .joined)) (and-r (not (only k (number S u))) _ e)
         where
           out : number S u ≡ k → ⊥
-          out = eqb-false (number S u) k (not-true (κ (number S u)) (and-l (not (κ (number S u))) _ e))
+          out = eqb-false (number S u) k (not-true (only k (number S u)) (and-l (not (only k (number S u))) _ e))
 
-          at : (w : Wire) → Joined N w → eqb (w .from) u && κ (number S (w .to)) ≡ true → eqb (w .from) u && (isCut N S w && W N S k (w .to)) ≡ true
+          at : (w : Wire) → Joined N w → eqb (w .from) u && only k (number S (w .to)) ≡ true → eqb (w .from) u && (isCut N S w && W N S k (w .to)) ≡ true
           at w h f =
-              let p : w .from ≡ u = eqb-true (w .from) u (and-l (eqb (w .from) u) (κ (number S (w .to))) f) in
-              let q : κ (number S (w .to)) ≡ true = and-r (eqb (w .from) u) (κ (number S (w .to))) f in
+              let p : w .from ≡ u = eqb-true (w .from) u (and-l (eqb (w .from) u) (only k (number S (w .to))) f) in
+              let q : only k (number S (w .to)) ≡ true = and-r (eqb (w .from) u) (only k (number S (w .to))) f in
               and-i _ _ (eq-eqb (w .from) u p) (and-i _ _
               (and-i _ _ (h .to-own) (and-i _ _ (ap (owns N) p ∙ t) (ap not (ne-eqb (number S (w .to)) (number S (w .from)) (λ z. out (sym (z ∙ ap (number S) p) ∙ eqb-true (number S (w .to)) k q))))))
               (and-i _ _ (h .to-own) q))
@@ -106,7 +103,7 @@ module _ {R P D : Type 0} (N : Network R P D) (S : Sheet R) (k : ℕ) (formed : 
   at-none : (i : ℕ) → box N i ≡ none → At i
   unfolding bind
   at-none i q =
-      let e : box F i ≡ none = rw (box-piece N S κ (formed .rise) i, q) refl in
+      let e : box F i ≡ none = rw (box-piece N S (only k) (formed .rise) i, q) refl in
       let c : cutInto N S k i ≡ false = no-cut-into i (rw q refl) in
       record {
         own-at = rw (e, q) refl;
@@ -119,11 +116,11 @@ module _ {R P D : Type 0} (N : Network R P D) (S : Sheet R) (k : ℕ) (formed : 
 
   at-input : (a : Input R) → box N (a .id) ≡ some (input a) → At (a .id)
   unfolding bind
-  at-input a q = go (feeds N S κ (a .id)) refl
+  at-input a q = go (feeds N S (only k) (a .id)) refl
     where
-      go : (t : Bool) → feeds N S κ (a .id) ≡ t → At (a .id)
+      go : (t : Bool) → feeds N S (only k) (a .id) ≡ t → At (a .id)
       go true f =
-          let e : box F (a .id) ≡ some (input a) = rw (box-piece N S κ (formed .rise) (a .id), q, f) refl in
+          let e : box F (a .id) ≡ some (input a) = rw (box-piece N S (only k) (formed .rise) (a .id), q, f) refl in
           let i : wiredInto N S k (a .id) ≡ true = into-feeds (a .id) ∙ f in
           record {
             own-at = rw (e, q) refl;
@@ -134,7 +131,7 @@ module _ {R P D : Type 0} (N : Network R P D) (S : Sheet R) (k : ℕ) (formed : 
             guar-at = λ t. absurd (false≢true (rw q at t));
           }
       go false f =
-          let e : box F (a .id) ≡ none = rw (box-piece N S κ (formed .rise) (a .id), q, f) refl in
+          let e : box F (a .id) ≡ none = rw (box-piece N S (only k) (formed .rise) (a .id), q, f) refl in
           let i : wiredInto N S k (a .id) ≡ false = into-feeds (a .id) ∙ f in
           let c : cutInto N S k (a .id) ≡ false = no-cut-into (a .id) (rw q refl) in
           record {
@@ -159,12 +156,12 @@ module _ {R P D : Type 0} (N : Network R P D) (S : Sheet R) (k : ℕ) (formed : 
 
   at-own : (b : Own R D) → box N (b .id) ≡ some (own b) → At (b .id)
   unfolding bind
-  at-own b q = go (κ (number S (b .id))) refl (feeds N S κ (b .id)) refl (isSome-true (note S (b .id)) (own-found N (λ (c : Own R D). isSome (note S (c .id)) ≡ true) (b .id) b entered q))
+  at-own b q = go (only k (number S (b .id))) refl (feeds N S (only k) (b .id)) refl (isSome-true (note S (b .id)) (own-found N (λ (c : Own R D). isSome (note S (c .id)) ≡ true) (b .id) b entered q))
     where
-      piece-is : box F (b .id) ≡ piece N S κ (own b)
-      piece-is = rw (box-piece N S κ (formed .rise) (b .id), q) refl
+      piece-is : box F (b .id) ≡ piece N S (only k) (own b)
+      piece-is = rw (box-piece N S (only k) (formed .rise) (b .id), q) refl
 
-      go : (s : Bool) → κ (number S (b .id)) ≡ s → (t : Bool) → feeds N S κ (b .id) ≡ t → (n : R) × (note S (b .id) ≡ some n) → At (b .id)
+      go : (s : Bool) → only k (number S (b .id)) ≡ s → (t : Bool) → feeds N S (only k) (b .id) ≡ t → (n : R) × (note S (b .id) ≡ some n) → At (b .id)
       go true s t f n =
           let e : box F (b .id) ≡ some (own (promising N S b)) = piece-is ∙ rw s refl in
           let c : cutInto N S k (b .id) ≡ false = cut-feeds (b .id) (rw q refl) ∙ rw s refl in
@@ -203,9 +200,9 @@ module _ {R P D : Type 0} (N : Network R P D) (S : Sheet R) (k : ℕ) (formed : 
   at-every = by-box N At at-none at-input at-own
 
   -- edges: the to end of a kept wire is no input, and its from end is one of the fragment's boxes
-  kept-edge : (u v : ℕ) → E F u v ≡ any (λ (w : Wire). κ (number S (w .to)) && (eqb (w .from) u && eqb (w .to) v)) (N .wires)
+  kept-edge : (u v : ℕ) → E F u v ≡ any (λ (w : Wire). only k (number S (w .to)) && (eqb (w .from) u && eqb (w .to) v)) (N .wires)
   unfolding fragmentOf
-  kept-edge u v = any-filter (λ (w : Wire). κ (number S (w .to))) (λ (w : Wire). eqb (w .from) u && eqb (w .to) v) (N .wires)
+  kept-edge u v = any-filter (λ (w : Wire). only k (number S (w .to))) (λ (w : Wire). eqb (w .from) u && eqb (w .to) v) (N .wires)
 
   box-either : (o : Option (Box R D)) → isBox o ≡ isOwn o || isSome (assumedOf o)
   box-either none = refl
@@ -225,7 +222,7 @@ module _ {R P D : Type 0} (N : Network R P D) (S : Sheet R) (k : ℕ) (formed : 
     where
       forth : E F u v ≡ true → E-k N S k u v && not (V-in-k N S k v) ≡ true
       forth e =
-          let f = any-found (λ (w : Wire). eqb (w .from) u && eqb (w .to) v) (F .wires) (fragment-formed N S formed κ entered .joined) e in
+          let f = any-found (λ (w : Wire). eqb (w .from) u && eqb (w .to) v) (F .wires) (fragment-formed N S formed (only k) entered .joined) e in
           let w = f .0 in
           let p : w .from ≡ u = eqb-true (w .from) u (and-l (eqb (w .from) u) (eqb (w .to) v) (f .2)) in
           let q : w .to ≡ v = eqb-true (w .to) v (and-r (eqb (w .from) u) (eqb (w .to) v) (f .2)) in
@@ -233,16 +230,16 @@ module _ {R P D : Type 0} (N : Network R P D) (S : Sheet R) (k : ℕ) (formed : 
           and-i _ _
           (and-i _ _ (sym (there u) ∙ ap (hasBox F) (sym p) ∙ f .1 .from-there)
           (and-i _ _ (or-i-l _ _ (sym (at-every v .own-at) ∙ o))
-          (any-mono _ _ (N .wires) (all-of (N .wires) (λ x h. and-r (κ (number S (x .to))) _ h)) (sym (kept-edge u v) ∙ e))))
+          (any-mono _ _ (N .wires) (all-of (N .wires) (λ x h. and-r (only k (number S (x .to))) _ h)) (sym (kept-edge u v) ∙ e))))
           (ap not (sym (at-every v .input-at) ∙ own-not-input (box F v) o))
 
       back : E-k N S k u v && not (V-in-k N S k v) ≡ true → E F u v ≡ true
       back e =
           let b : E-k N S k u v ≡ true = and-l (E-k N S k u v) (not (V-in-k N S k v)) e in
           let r = and-r (V-k N S k u) (V-k N S k v && E N u v) b in
-          let m : κ (number S v) ≡ true = inside (V-in-k N S k v) (not-true (V-in-k N S k v) (and-r (E-k N S k u v) (not (V-in-k N S k v)) e)) (and-l (V-k N S k v) (E N u v) r) in
-          kept-edge u v ∙ any-mono _ _ (N .wires) (all-of (N .wires) (λ x h. and-i _ _ (ap (λ (j : ℕ). κ (number S j)) (eqb-true (x .to) v (and-r (eqb (x .from) u) (eqb (x .to) v) h)) ∙ m) h)) (and-r (V-k N S k v) (E N u v) r)
+          let m : only k (number S v) ≡ true = inside (V-in-k N S k v) (not-true (V-in-k N S k v) (and-r (E-k N S k u v) (not (V-in-k N S k v)) e)) (and-l (V-k N S k v) (E N u v) r) in
+          kept-edge u v ∙ any-mono _ _ (N .wires) (all-of (N .wires) (λ x h. and-i _ _ (ap (λ (j : ℕ). only k (number S j)) (eqb-true (x .to) v (and-r (eqb (x .from) u) (eqb (x .to) v) h)) ∙ m) h)) (and-r (V-k N S k v) (E N u v) r)
         where
-          inside : (i : Bool) → i ≡ false → W N S k v || i ≡ true → κ (number S v) ≡ true
+          inside : (i : Bool) → i ≡ false → W N S k v || i ≡ true → only k (number S v) ≡ true
           inside true z t = absurd (true≢false z)
-          inside false z t = and-r (owns N v) (κ (number S v)) (sym (or-false (W N S k v)) ∙ t)
+          inside false z t = and-r (owns N v) (only k (number S v)) (sym (or-false (W N S k v)) ∙ t)

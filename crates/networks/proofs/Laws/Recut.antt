@@ -18,7 +18,7 @@ use Rattle.lists.specs.Sorted.{find-self}
 use Rattle.networks.specs.Network.{Own, Box, own, input, Wire, Network, boxId, isOwn, ownBoxes, owns}
 use Rattle.networks.specs.Sheets.{Sheet, number, note}
 use Rattle.networks.specs.Answer.{isSome}
-use Rattle.networks.specs.Cut.{promised, assuming, leaves, feeds, promising, piece, fragmentOf, fragment, numbered, Third}
+use Rattle.networks.specs.Cut.{only, promised, assuming, leaves, feeds, promising, piece, fragmentOf, fragment, numbered, Third}
 use Rattle.networks.proofs.Laws.Boxes.{own-there, own-fact}
 use Rattle.networks.proofs.Laws.Pieces.{own-boxes-fragment, own-kept}
 use Rattle.networks.proofs.Laws.Formed.{Formed, leaves-own, owns-fragment, fragment-formed}
@@ -65,7 +65,7 @@ twice-promised none n false m = refl
 pub both-numbered : {R P D : Type 0} (N : Network R P D) (X Y : Sheet R) (x y : ℕ)
     → any (numbered (fragment N X x) Y y) (ownBoxes (fragment N X x)) ≡ any (λ (b : Own R D). numbered N X x b && numbered N Y y b) (ownBoxes N)
 both-numbered N X Y x y =
-    ap (any (numbered (fragment N X x) Y y)) (own-boxes-fragment N X (λ (n : ℕ). eqb n x))
+    ap (any (numbered (fragment N X x) Y y)) (own-boxes-fragment N X (only x))
     ∙ any-mapped (numbered (fragment N X x) Y y) (promising N X) (filter (numbered N X x) (ownBoxes N))
     ∙ any-filter (numbered N X x) (numbered N Y y) (ownBoxes N)
 
@@ -100,10 +100,10 @@ module _ {R P D : Type 0} (N : Network R P D) (X Y Z : Sheet R) (formed : Formed
     inner = fragment N X x
 
     pub inner-formed : Formed inner
-    inner-formed = fragment-formed N X formed (λ (n : ℕ). eqb n x) (first-fits .entered)
+    inner-formed = fragment-formed N X formed (only x) (first-fits .entered)
 
     inner-owns : (i : ℕ) → owns N i ≡ true → eqb (number X i) x ≡ true → owns inner i ≡ true
-    inner-owns i t e = owns-fragment N X formed (λ (n : ℕ). eqb n x) i t ∙ e
+    inner-owns i t e = owns-fragment N X formed (only x) i t ∙ e
 
     -- the wires that leave an own box of the fragment by the second sheet
     inner-leaves : (i : ℕ) → owns N i ≡ true → eqb (number X i) x ≡ true
@@ -119,8 +119,8 @@ module _ {R P D : Type 0} (N : Network R P D) (X Y Z : Sheet R) (formed : Formed
 
     pub second-fits : Fits inner Y
     second-fits = record {
-      entered = own-kept N X (λ (n : ℕ). eqb n x) _ (all-map (ownBoxes N) (λ b f t. rw (third .second-notes (b .id)) f) (fits .entered));
-      notes = own-kept N X (λ (n : ℕ). eqb n x) _ (own-all _ (all-map (ownBoxes N) at (fits .notes)));
+      entered = own-kept N X (only x) _ (all-map (ownBoxes N) (λ b f t. rw (third .second-notes (b .id)) f) (fits .entered));
+      notes = own-kept N X (only x) _ (own-all _ (all-map (ownBoxes N) at (fits .notes)));
     }
       where
         promise : (i : ℕ) (p : Option R) (l : Bool) → ((q : R) → p ≡ some q → note Z i ≡ some q) → (q : R) → promised p l (note X i) ≡ some q → note Y i ≡ some q
@@ -134,30 +134,21 @@ module _ {R P D : Type 0} (N : Network R P D) (X Y Z : Sheet R) (formed : Formed
         at b f t e l = promise (b .id) (b .promise) (leaves N X (b .id)) (f (second-leaves (b .id) t e l))
 
     module _ (y z : ℕ) (meets : (i : ℕ) → owns N i ≡ true → eqb (number Z i) z ≡ eqb (number X i) x && eqb (number Y i) y) where
-      abbrev in-x : ℕ → Bool
-      in-x n = eqb n x
-
-      abbrev in-y : ℕ → Bool
-      in-y n = eqb n y
-
-      abbrev in-z : ℕ → Bool
-      in-z n = eqb n z
-
       wire-meets : All (λ (w : Wire). eqb (number Z (w .to)) z ≡ eqb (number X (w .to)) x && eqb (number Y (w .to)) y) (N .wires)
       wire-meets = all-map (N .wires) (λ w h. meets (w .to) (h .to-own)) (formed .joined)
 
-      same-feeds : (i : ℕ) → feeds inner Y in-y i ≡ feeds N Z in-z i
+      same-feeds : (i : ℕ) → feeds inner Y (only y) i ≡ feeds N Z (only z) i
       unfolding feeds fragmentOf
       same-feeds i =
-          any-filter (λ (w : Wire). in-x (number X (w .to))) (λ (w : Wire). eqb (w .from) i && in-y (number Y (w .to))) (N .wires)
+          any-filter (λ (w : Wire). only x (number X (w .to))) (λ (w : Wire). eqb (w .from) i && only y (number Y (w .to))) (N .wires)
           ∙ any-congr _ _ (N .wires) (all-map (N .wires)
-          (λ w h. and-turn (in-x (number X (w .to))) (eqb (w .from) i) (in-y (number Y (w .to))) ∙ ap (_&&_ (eqb (w .from) i)) (sym h)) wire-meets)
+          (λ w h. and-turn (only x (number X (w .to))) (eqb (w .from) i) (only y (number Y (w .to))) ∙ ap (_&&_ (eqb (w .from) i)) (sym h)) wire-meets)
 
-      first-feeds : (i : ℕ) → feeds N Z in-z i ≡ true → feeds N X in-x i ≡ true
+      first-feeds : (i : ℕ) → feeds N Z (only z) i ≡ true → feeds N X (only x) i ≡ true
       unfolding feeds
-      first-feeds i = any-mono _ _ (N .wires) (all-map (N .wires) (λ w h e. feed-first (eqb (w .from) i) (in-x (number X (w .to))) (in-y (number Y (w .to))) (rw h at e)) wire-meets)
+      first-feeds i = any-mono _ _ (N .wires) (all-map (N .wires) (λ w h e. feed-first (eqb (w .from) i) (only x (number X (w .to))) (only y (number Y (w .to))) (rw h at e)) wire-meets)
 
-      same-leaves : (i : ℕ) → owns N i ≡ true → in-x (number X i) ≡ true → leaves N Z i ≡ leaves N X i || leaves inner Y i
+      same-leaves : (i : ℕ) → owns N i ≡ true → only x (number X i) ≡ true → leaves N Z i ≡ leaves N X i || leaves inner Y i
       same-leaves i t e =
           let q : number X i ≡ x = eqb-true (number X i) x e in
           leaves-own N Z formed i t
@@ -172,36 +163,36 @@ module _ {R P D : Type 0} (N : Network R P D) (X Y Z : Sheet R) (formed : Formed
           at w q h = rw (h, ← q) (leave-meet (eqb (w .from) i) (eqb (number X (w .to)) (number X i)) (eqb (number Y (w .to)) (number Y i)))
 
       -- an input, of the network or of the first fragment: it stays where it feeds the fragment
-      same-input : (i : ℕ) (r : R) → bind {A = Box R D} (cond (feeds N X in-x i) (some (input (record { id = i; assumed = r }))) none) (piece inner Y in-y)
-          ≡ cond (feeds N Z in-z i) (some (input (record { id = i; assumed = r }))) none
+      same-input : (i : ℕ) (r : R) → bind {A = Box R D} (cond (feeds N X (only x) i) (some (input (record { id = i; assumed = r }))) none) (piece inner Y (only y))
+          ≡ cond (feeds N Z (only z) i) (some (input (record { id = i; assumed = r }))) none
       unfolding bind
-      same-input i r = go (feeds N X in-x i) (feeds N Z in-z i) (first-feeds i) (same-feeds i)
+      same-input i r = go (feeds N X (only x) i) (feeds N Z (only z) i) (first-feeds i) (same-feeds i)
         where
-          go : (s t : Bool) → (t ≡ true → s ≡ true) → feeds inner Y in-y i ≡ t
-              → bind {A = Box R D} (cond s (some (input (record { id = i; assumed = r }))) none) (piece inner Y in-y) ≡ cond t (some (input (record { id = i; assumed = r }))) none
+          go : (s t : Bool) → (t ≡ true → s ≡ true) → feeds inner Y (only y) i ≡ t
+              → bind {A = Box R D} (cond s (some (input (record { id = i; assumed = r }))) none) (piece inner Y (only y)) ≡ cond t (some (input (record { id = i; assumed = r }))) none
           go true t f q = rw q
           go false true f q = absurd (false≢true (f refl))
           go false false f q = refl
 
-      same-box : (v : Box R D) → (isOwn (some v) ≡ true → owns N (boxId v) ≡ true) → bind (piece N X in-x v) (piece inner Y in-y) ≡ piece N Z in-z v
+      same-box : (v : Box R D) → (isOwn (some v) ≡ true → owns N (boxId v) ≡ true) → bind (piece N X (only x) v) (piece inner Y (only y)) ≡ piece N Z (only z) v
       unfolding bind
       same-box (input a) f = same-input (a .id) (a .assumed)
-      same-box (own b) f = go (in-x (number X (b .id))) refl (in-y (number Y (b .id))) refl
+      same-box (own b) f = go (only x (number X (b .id))) refl (only y (number Y (b .id))) refl
         where
           t : owns N (b .id) ≡ true
           t = f refl
 
-          assumed : (n : Option R) → bind (cond (feeds N X in-x (b .id)) (Option·map (assuming b) n) none) (piece inner Y in-y) ≡ cond (feeds N Z in-z (b .id)) (Option·map (assuming b) n) none
+          assumed : (n : Option R) → bind (cond (feeds N X (only x) (b .id)) (Option·map (assuming b) n) none) (piece inner Y (only y)) ≡ cond (feeds N Z (only z) (b .id)) (Option·map (assuming b) n) none
           assumed (some n) = same-input (b .id) n
-          assumed none = nothing (feeds N X in-x (b .id)) (feeds N Z in-z (b .id))
+          assumed none = nothing (feeds N X (only x) (b .id)) (feeds N Z (only z) (b .id))
             where
-              nothing : (s u : Bool) → bind {A = Box R D} (cond s none none) (piece inner Y in-y) ≡ cond u none none
+              nothing : (s u : Bool) → bind {A = Box R D} (cond s none none) (piece inner Y (only y)) ≡ cond u none none
               nothing true true = refl
               nothing true false = refl
               nothing false true = refl
               nothing false false = refl
 
-          go : (α : Bool) → in-x (number X (b .id)) ≡ α → (β : Bool) → in-y (number Y (b .id)) ≡ β → bind (piece N X in-x (own b)) (piece inner Y in-y) ≡ piece N Z in-z (own b)
+          go : (α : Bool) → only x (number X (b .id)) ≡ α → (β : Bool) → only y (number Y (b .id)) ≡ β → bind (piece N X (only x) (own b)) (piece inner Y (only y)) ≡ piece N Z (only z) (own b)
           go true p true q = rw (meets (b .id) t, p, q)
               (ap (λ (o : Option R). some (own (record { id = b .id; initial = b .initial; promise = o; demand = b .demand })))
               (rw (third .first-notes (b .id), third .second-notes (b .id)) (twice-promised (b .promise) (note Z (b .id)) (leaves N X (b .id)) (leaves inner Y (b .id)))
@@ -217,9 +208,9 @@ module _ {R P D : Type 0} (N : Network R P D) (X Y Z : Sheet R) (formed : Formed
         wires = same-wires i;
       }
         where
-          same-boxes : filterMap (piece inner Y in-y) (filterMap (piece N X in-x) (N .boxes)) ≡ filterMap (piece N Z in-z) (N .boxes)
-          same-boxes = filterMap-filterMap (piece N X in-x) (piece inner Y in-y) (N .boxes)
+          same-boxes : filterMap (piece inner Y (only y)) (filterMap (piece N X (only x)) (N .boxes)) ≡ filterMap (piece N Z (only z)) (N .boxes)
+          same-boxes = filterMap-filterMap (piece N X (only x)) (piece inner Y (only y)) (N .boxes)
               ∙ filterMap-congr _ _ (N .boxes) (all-map (N .boxes) (λ v e. same-box v (λ o. ap isOwn e ∙ o)) (find-self boxId 0 (N .boxes) (formed .rise)))
 
-          same-wires : filter (λ (w : Wire). in-y (number Y (w .to))) (filter (λ (w : Wire). in-x (number X (w .to))) (N .wires)) ≡ filter (λ (w : Wire). in-z (number Z (w .to))) (N .wires)
-          same-wires = filter-filter (λ (w : Wire). in-x (number X (w .to))) (λ (w : Wire). in-y (number Y (w .to))) (N .wires) ∙ sym (filter-congr _ _ (N .wires) wire-meets)
+          same-wires : filter (λ (w : Wire). only y (number Y (w .to))) (filter (λ (w : Wire). only x (number X (w .to))) (N .wires)) ≡ filter (λ (w : Wire). only z (number Z (w .to))) (N .wires)
+          same-wires = filter-filter (λ (w : Wire). only x (number X (w .to))) (λ (w : Wire). only y (number Y (w .to))) (N .wires) ∙ sym (filter-congr _ _ (N .wires) wire-meets)

@@ -21,7 +21,7 @@ use Rattle.networks.specs.Sound.{sends}
 use Rattle.networks.specs.Sheets.{Sheet, number, note}
 use Rattle.networks.specs.Answer.{isSome}
 use Rattle.networks.specs.Solution.{trans, bestOf, due, Solution}
-use Rattle.networks.specs.Cut.{promised, leaves, feeds, promising, fragmentOf, fragment, Agrees}
+use Rattle.networks.specs.Cut.{only, promised, leaves, feeds, promising, fragmentOf, fragment, Agrees}
 use Rattle.networks.proofs.Laws.Boxes.{own-there, input-there}
 use Rattle.networks.proofs.Laws.Pieces.{own-kept, kept-own, inputs-kept, kept-inputs, wires-into-fragment}
 use Rattle.networks.proofs.Laws.Formed.{Formed, feeds-leaves}
@@ -32,13 +32,13 @@ pub everywhere : {R P D : Type 0} (N : Network R P D) (S : Sheet R) (Q : ℕ →
     → ((k : ℕ) → All (Q k) (ownBoxes (fragment N S k))) → All (λ (b : Own R D). Q (number S (b .id)) (promising N S b)) (ownBoxes N)
 everywhere {R} {P} {D} N S Q h =
     all-map (ownBoxes N) (λ b f. f (number S (b .id)) (eq-eqb (number S (b .id)) (number S (b .id)) refl))
-    (all-each (λ (k : ℕ) (b : Own R D). eqb (number S (b .id)) k ≡ true → Q k (promising N S b)) (ownBoxes N) (λ k. kept-own N S (λ (n : ℕ). eqb n k) (Q k) (h k)))
+    (all-each (λ (k : ℕ) (b : Own R D). eqb (number S (b .id)) k ≡ true → Q k (promising N S b)) (ownBoxes N) (λ k. kept-own N S (only k) (Q k) (h k)))
 
 -- and back
 pub anywhere : {R P D : Type 0} (N : Network R P D) (S : Sheet R) (Q : ℕ → Own R D → Type 0)
     → All (λ (b : Own R D). Q (number S (b .id)) (promising N S b)) (ownBoxes N) → (k : ℕ) → All (Q k) (ownBoxes (fragment N S k))
 anywhere N S Q h k =
-    own-kept N S (λ (n : ℕ). eqb n k) (Q k) (all-map (ownBoxes N) (λ b f e. subst (λ (n : ℕ). Q n (promising N S b)) (eqb-true (number S (b .id)) k e) f) h)
+    own-kept N S (only k) (Q k) (all-map (ownBoxes N) (λ b f e. subst (λ (n : ℕ). Q n (promising N S b)) (eqb-true (number S (b .id)) k e) f) h)
 
 -- a promise in a fragment: the network's own, and the note where a cut wire leaves
 promised-own : {R : Type 0} (x : R) (p n : Option R) (left : Bool) → ((q : R) → promised p left n ≡ some q → x ≡ q) → (q : R) → p ≡ some q → x ≡ q
@@ -80,7 +80,7 @@ module _ (𝓐 : Algebra) where
       → due 𝓐 (fragment N S (number S (b .id))) ℒ (promising N S b) ≡ due 𝓐 N ℒ b
   unfolding due fragmentOf
   due-fragment N S ℒ b = ap (λ (ws : List Wire). bestOf 𝓐 (b .initial) (map (λ (w : Wire). trans 𝓐 N w (ℒ (w .from))) ws))
-      (wires-into-fragment N S (λ (n : ℕ). eqb n (number S (b .id))) (b .id) (eq-eqb (number S (b .id)) (number S (b .id)) refl))
+      (wires-into-fragment N S (only (number S (b .id))) (b .id) (eq-eqb (number S (b .id)) (number S (b .id)) refl))
 
   module _ (N : Network Route Policy Demand) (S : Sheet Route) (ℒ : ℕ → Route) where
     -- from the fragments to the network
@@ -92,10 +92,10 @@ module _ (𝓐 : Algebra) where
       assumptions : All (λ (a : Input Route). ℒ (a .id) ≡ a .assumed) (inputs N)
       unfolding feeds
       assumptions = all-map (inputs N) at (all-both _ _ (inputs N) used
-          (all-each (λ (k : ℕ) (a : Input Route). feeds N S (λ (n : ℕ). eqb n k) (a .id) ≡ true → ℒ (a .id) ≡ a .assumed) (inputs N)
-          (λ k. kept-inputs N S (λ (n : ℕ). eqb n k) (λ (a : Input Route). ℒ (a .id) ≡ a .assumed) (solved k .equation-7))))
+          (all-each (λ (k : ℕ) (a : Input Route). feeds N S (only k) (a .id) ≡ true → ℒ (a .id) ≡ a .assumed) (inputs N)
+          (λ k. kept-inputs N S (only k) (λ (a : Input Route). ℒ (a .id) ≡ a .assumed) (solved k .equation-7))))
         where
-          at : (a : Input Route) → (sends N (a .id) ≡ true) × ((k : ℕ) → feeds N S (λ (n : ℕ). eqb n k) (a .id) ≡ true → ℒ (a .id) ≡ a .assumed) → ℒ (a .id) ≡ a .assumed
+          at : (a : Input Route) → (sends N (a .id) ≡ true) × ((k : ℕ) → feeds N S (only k) (a .id) ≡ true → ℒ (a .id) ≡ a .assumed) → ℒ (a .id) ≡ a .assumed
           at a f =
               let w = any-found (λ (x : Wire). eqb (x .from) (a .id)) (N .wires) (any-here (N .wires)) (f .0) in
               f .1 (number S (w .0 .to)) (w .1 (λ (x : Wire). eqb (x .from) (a .id) && eqb (number S (x .to)) (number S (w .0 .to))) (and-i _ _ (w .2) (eq-eqb (number S (w .0 .to)) _ refl)))
@@ -117,9 +117,9 @@ module _ (𝓐 : Algebra) where
     fragment-solved formed h agrees k = record {
       equation-6 = anywhere N S (λ (m : ℕ) (b : Own Route Demand). ℒ (b .id) ≡ due 𝓐 (fragment N S m) ℒ b)
           (all-map (ownBoxes N) (λ b e. e ∙ sym (due-fragment N S ℒ b)) (h .equation-6)) k;
-      equation-7 = inputs-kept N S (λ (n : ℕ). eqb n k) (λ (a : Input Route). ℒ (a .id) ≡ a .assumed)
+      equation-7 = inputs-kept N S (only k) (λ (a : Input Route). ℒ (a .id) ≡ a .assumed)
           (all-map (inputs N) (λ a e t. e) (h .equation-7))
-          (all-map (ownBoxes N) (λ b f s t n e. some-inj (f .1 (feeds-leaves N S formed (λ (m : ℕ). eqb m k) (b .id) (ap isOwn (f .0)) s t) ∙ e))
+          (all-map (ownBoxes N) (λ b f s t n e. some-inj (f .1 (feeds-leaves N S formed (only k) (b .id) (ap isOwn (f .0)) s t) ∙ e))
           (all-both _ _ (ownBoxes N) (own-there N (formed .rise)) agrees));
       equation-8 = anywhere N S (λ (m : ℕ) (b : Own Route Demand). (q : Route) → b .promise ≡ some q → ℒ (b .id) ≡ q)
           (all-map (ownBoxes N) (λ b f. own-promised (ℒ (b .id)) (b .promise) (note S (b .id)) (leaves N S (b .id)) (f .0) (f .1)) (all-both _ _ (ownBoxes N) agrees (h .equation-8))) k;

@@ -14,7 +14,7 @@ use Rattle.networks.specs.Network.{Input, Box, Wire, Network, ids, wireK
 use Rattle.networks.specs.Sound.{Bounds, Sound, NoMore, sends}
 use Rattle.networks.specs.Sheets.{Sheet, number, note}
 use Rattle.networks.specs.Answer.{Entered}
-use Rattle.networks.specs.Cut.{promising, piece, fragmentOf, fragment, numbered}
+use Rattle.networks.specs.Cut.{only, promising, piece, fragmentOf, fragment, numbered}
 use Rattle.networks.proofs.Laws.Pieces.{piece-id, own-boxes-fragment, inputs-kept, sends-fragment}
 use Rattle.networks.proofs.Laws.Formed.{sound-formed, fragment-formed}
 
@@ -28,7 +28,7 @@ module _ {R P D : Type 0} (N : Network R P D) (S : Sheet R) where
   }
 
   some-kept : (k : ℕ) → any (numbered N S k) (ownBoxes N) ≡ true → 0 < length (ownBoxes (fragment N S k))
-  some-kept k t = rw (own-boxes-fragment N S (λ (n : ℕ). eqb n k), length-map (filter (numbered N S k) (ownBoxes N)) (promising N S)) (filter-some (numbered N S k) (ownBoxes N) t)
+  some-kept k t = rw (own-boxes-fragment N S (only k), length-map (filter (numbered N S k) (ownBoxes N)) (promising N S)) (filter-some (numbered N S k) (ownBoxes N) t)
 
   -- an input is kept because it feeds the fragment
   inputs-send : (κ : ℕ → Bool) → All (λ (a : Input R). sends (fragmentOf N S κ) (a .id) ≡ true) (inputs (fragmentOf N S κ))
@@ -39,17 +39,17 @@ module _ {R P D : Type 0} (N : Network R P D) (S : Sheet R) where
   pub fragment-sound : (B : Bounds) (k : ℕ) → Sound B N → Entered N (note S) → any (numbered N S k) (ownBoxes N) ≡ true → Sound B (fragment N S k)
   unfolding fragmentOf
   fragment-sound B k sound entered some-numbered =
-      let less = fragment-less (λ (n : ℕ). eqb n k) in
-      let formed = fragment-formed N S (sound-formed B N sound) (λ (n : ℕ). eqb n k) entered in
+      let less = fragment-less (only k) in
+      let formed = fragment-formed N S (sound-formed B N sound) (only k) entered in
       record {
         boxes-within = omega (arith, less .boxes, sound .boxes-within);
         wires-within = omega (arith, less .wires, sound .wires-within);
         policies-within = sound .policies-within;
-        ids-within = all-filterMap (λ (v : Box R D). boxId v < ids) (piece N S (λ (n : ℕ). eqb n k)) (N .boxes)
-            (all-map (N .boxes) (λ v l w e. rw (piece-id N S (λ (n : ℕ). eqb n k) v w e) l) (sound .ids-within));
+        ids-within = all-filterMap (λ (v : Box R D). boxId v < ids) (piece N S (only k)) (N .boxes)
+            (all-map (N .boxes) (λ v l w e. rw (piece-id N S (only k) v w e) l) (sound .ids-within));
         boxes-rise = formed .rise;
         some-own = some-kept k some-numbered;
         wires-rise = rises-filter wireKey _ 0 (N .wires) (sound .wires-rise);
         wires-joined = formed .joined;
-        inputs-used = inputs-send (λ (n : ℕ). eqb n k);
+        inputs-used = inputs-send (only k);
       }

@@ -14,7 +14,7 @@ use Rattle.lists.specs.Filter.{filter, filter-all, filterMap-self, filterMap-al
 use Rattle.networks.specs.Network.{Own, Input, Box, own, input, Wire, Network, asOwn, asInput, isOwn, ownBoxes, inputs, owns}
 use Rattle.networks.specs.Sound.{Bounds, Sound}
 use Rattle.networks.specs.Sheets.{Sheet, number, note}
-use Rattle.networks.specs.Cut.{promised, leaves, feeds, piece, fragmentOf, fragment}
+use Rattle.networks.specs.Cut.{only, promised, leaves, feeds, piece, fragmentOf, fragment}
 use Rattle.networks.proofs.Laws.Boxes.{own-there, own-fact}
 use Rattle.networks.proofs.Laws.Formed.{sound-formed, leaves-own}
 
@@ -29,7 +29,7 @@ module _ {R P D : Type 0} (B : Bounds) (N : Network R P D) (S : Sheet R) (k : �
       at i t = leaves-own N S (sound-formed B N sound) i t ∙ false-any _ (N .wires)
           (all-map (N .wires) (λ w h. ap (λ (s : Bool). eqb (w .from) i && not s) (eq-eqb _ _ (numbered-k (w .to) (h .to-own) ∙ sym (numbered-k i t))) ∙ and-false (eqb (w .from) i)) (sound .wires-joined))
 
-  all-feed : All (λ (a : Input R). feeds N S (λ (n : ℕ). eqb n k) (a .id) ≡ true) (inputs N)
+  all-feed : All (λ (a : Input R). feeds N S (only k) (a .id) ≡ true) (inputs N)
   unfolding feeds
   all-feed = all-map (inputs N) (λ a. any-mono _ _ (N .wires) (all-map (N .wires) (λ w h e. and-i _ _ e (eq-eqb _ _ (numbered-k (w .to) (h .to-own)))) (sound .wires-joined))) (sound .inputs-used)
 
@@ -39,8 +39,8 @@ module _ {R P D : Type 0} (B : Bounds) (N : Network R P D) (S : Sheet R) (k : �
 
   box-kept : (v : Box R D)
       → ((b : Own R D) → asOwn v ≡ some b → (number S (b .id) ≡ k) × (leaves N S (b .id) ≡ false))
-      × ((a : Input R) → asInput v ≡ some a → feeds N S (λ (n : ℕ). eqb n k) (a .id) ≡ true)
-      → piece N S (λ (n : ℕ). eqb n k) v ≡ some v
+      × ((a : Input R) → asInput v ≡ some a → feeds N S (only k) (a .id) ≡ true)
+      → piece N S (only k) v ≡ some v
   box-kept (own b) f = let g = f .0 b refl in
       rw (eq-eqb (number S (b .id)) k (g .0), g .1)
       (ap (λ (p : Option R). some (own (record { id = b .id; initial = b .initial; promise = p; demand = b .demand }))) (unpromised (b .promise) (note S (b .id))))
@@ -50,7 +50,7 @@ module _ {R P D : Type 0} (B : Bounds) (N : Network R P D) (S : Sheet R) (k : �
   unfolding fragmentOf
   same-network = λ i. record { policies = N .policies; boxes = boxes i; wires = wires i }
     where
-      boxes : filterMap (piece N S (λ (n : ℕ). eqb n k)) (N .boxes) ≡ N .boxes
+      boxes : filterMap (piece N S (only k)) (N .boxes) ≡ N .boxes
       boxes = filterMap-self _ (N .boxes) (all-map (N .boxes) box-kept (all-both _ _ (N .boxes)
           (filterMap-all _ asOwn (N .boxes) (all-both _ _ (ownBoxes N) one none-leaves))
           (filterMap-all _ asInput (N .boxes) all-feed)))

@@ -15,7 +15,7 @@ use Rattle.networks.specs.Sheets.{Sheet, RouteList, note, listed}
 use Rattle.networks.specs.Answer.{given, isSome, Entered}
 use Rattle.networks.specs.Solution.{mapping, Solution, Demands}
 use Rattle.networks.specs.Judge.{held, Passes}
-use Rattle.networks.specs.Cut.{promised, leaves, fragment, numbered, Agrees, cut, Cuts}
+use Rattle.networks.specs.Cut.{only, promised, leaves, fragment, numbered, Agrees, cut, Cuts}
 use Rattle.networks.proofs.Laws.Answers.{isSome-true}
 use Rattle.networks.proofs.Laws.Formed.{Formed, sound-formed, fragment-formed}
 use Rattle.networks.proofs.Laws.Cutting.{Fits, cut-answer, cuts-fits}
@@ -34,7 +34,7 @@ module _ (𝓐 : Algebra) (B : Bounds) (N : NetworkOver 𝓐) (S : Sheet (𝓐 .
   fits = (cuts-fits 𝓐 N S B sound) .0 cuts
 
   formed-in : (k : ℕ) → Formed (fragment N S k)
-  formed-in k = fragment-formed N S formed (λ (n : ℕ). eqb n k) (fits .entered)
+  formed-in k = fragment-formed N S formed (only k) (fits .entered)
 
   -- a listed route, where there is an entry
   held-listed : All (λ (b : Own Route Demand). listed L (b .id) ≡ some (held 𝓐 L (b .id))) (ownBoxes N)
