@@ -22,7 +22,8 @@ pub fragments-and-whole : (𝓐 : Algebra) (B : Bounds) (N : NetworkOver 𝓐) (
     → Sound B N → Cuts 𝓐 N S → Entered N (listed L)
     → ((k : ℕ) (F : NetworkOver 𝓐) → cut 𝓐 N S k ≡ given F → Passes 𝓐 F L) ↔ (Passes 𝓐 N L × Agrees N S (listed L))
 fragments-and-whole 𝓐 B N S L sound cuts entered = (
-  λ h. let parts = every-part 𝓐 B N S L sound cuts entered h in (whole-passes 𝓐 B N S L sound cuts entered parts, whole-agrees 𝓐 B N S L sound cuts entered parts),
+  λ h. let parts = every-part 𝓐 B N S L sound cuts entered h in
+      (whole-passes 𝓐 B N S L sound cuts entered parts, whole-agrees 𝓐 B N S L sound cuts entered parts),
   λ h k F e. subst (λ (G : NetworkOver 𝓐). Passes 𝓐 G L) ((cut-given 𝓐 N S k F e) .2) (part-passes 𝓐 B N S L sound cuts entered (h .0) (h .1) k),
 )
 

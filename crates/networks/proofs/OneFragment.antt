@@ -19,7 +19,9 @@ pub one-fragment : (𝓐 : Algebra) (B : Bounds) (N : NetworkOver 𝓐) (S : She
     → cut 𝓐 N S k ≡ given N
 one-fragment 𝓐 B N S k sound entered one =
     cut-answer 𝓐 N S (record { entered = entered; notes = unclashed }) k
-    ∙ rw (all-any (numbered N S k) (ownBoxes N) (sound .some-own) (all-map (ownBoxes N) (λ b e. eq-eqb (number S (b .id)) k e) one)) (ap given (same-network B N S k sound one))
+    ∙ rw (all-any (numbered N S k) (ownBoxes N) (sound .some-own) (all-map (ownBoxes N) (λ b e. eq-eqb (number S (b .id)) k e) one))
+    (ap given (same-network B N S k sound one))
   where
-    unclashed : All (λ (b : Own (𝓐 .Route) (𝓐 .Demand)). leaves N S (b .id) ≡ true → (q : 𝓐 .Route) → b .promise ≡ some q → note S (b .id) ≡ some q) (ownBoxes N)
+    unclashed : All (λ (b : Own (𝓐 .Route) (𝓐 .Demand)). leaves N S (b .id) ≡ true → (q : 𝓐 .Route) → b .promise ≡ some q
+        → note S (b .id) ≡ some q) (ownBoxes N)
     unclashed = all-map (ownBoxes N) (λ b e l q p. absurd (true≢false (sym l ∙ e))) (none-leaves B N S k sound one)

@@ -30,22 +30,28 @@ module _ (𝓐 : Algebra) (B : Bounds) (N : NetworkOver 𝓐) (S : Sheet (𝓐 .
 
   -- Fragment solutions are not spurious.
   pub theorem-IV-1 : (ℒ : ℕ → Route) (parts : ℕ → ℕ → Route) → MadeUp ℒ parts → ((k : ℕ) → Solution 𝓐 (fragment N S k) (parts k)) → Solution 𝓐 N ℒ
-  theorem-IV-1 ℒ parts made solved = ((solutions-and-whole 𝓐 B N S ℒ sound cuts) .0 (λ k. solution-ext 𝓐 (fragment N S k) (formed k) (parts k) ℒ (λ i t. sym (made k i t)) (solved k))) .0
+  theorem-IV-1 ℒ parts made solved = ((solutions-and-whole 𝓐 B N S ℒ sound cuts) .0
+      (λ k. solution-ext 𝓐 (fragment N S k) (formed k) (parts k) ℒ (λ i t. sym (made k i t)) (solved k))) .0
 
   -- A solution whose routes are the notes at the cut wires solves every fragment.
   pub theorem-IV-2 : (ℒ : ℕ → Route) → Solution 𝓐 N ℒ → Agrees N S (λ (i : ℕ). some (ℒ i)) → (k : ℕ) → Solution 𝓐 (fragment N S k) ℒ
   theorem-IV-2 ℒ solved agrees = (solutions-and-whole 𝓐 B N S ℒ sound cuts) .1 (solved, agrees)
 
   -- the parts' routes at a fragment's own boxes
-  own-made : (ℒ : ℕ → Route) (parts : ℕ → ℕ → Route) → MadeUp ℒ parts → (k : ℕ) → All (λ (b : Own Route Demand). ℒ (b .id) ≡ parts k (b .id)) (ownBoxes (fragment N S k))
+  own-made : (ℒ : ℕ → Route) (parts : ℕ → ℕ → Route) → MadeUp ℒ parts → (k : ℕ)
+      → All (λ (b : Own Route Demand). ℒ (b .id) ≡ parts k (b .id)) (ownBoxes (fragment N S k))
   own-made ℒ parts made k = all-map (ownBoxes (fragment N S k)) (λ b e. made k (b .id) (ap isBox e)) (own-there (fragment N S k) (formed k .rise))
 
   -- A property that holds on all parts holds on the whole.
-  pub corollary-IV-3 : (P : ℕ → Route → Type 0) (ℒ : ℕ → Route) (parts : ℕ → ℕ → Route) → MadeUp ℒ parts → ((k : ℕ) → Holds 𝓐 P (fragment N S k) (parts k)) → Holds 𝓐 P N ℒ
+  pub corollary-IV-3 : (P : ℕ → Route → Type 0) (ℒ : ℕ → Route) (parts : ℕ → ℕ → Route) → MadeUp ℒ parts
+      → ((k : ℕ) → Holds 𝓐 P (fragment N S k) (parts k)) → Holds 𝓐 P N ℒ
   corollary-IV-3 P ℒ parts made holds = everywhere N S (λ (k : ℕ) (b : Own Route Demand). P (b .id) (ℒ (b .id)))
-      (λ k. all-map (ownBoxes (fragment N S k)) (λ b f. subst (P (b .id)) (sym (f .0)) (f .1)) (all-both _ _ (ownBoxes (fragment N S k)) (own-made ℒ parts made k) (holds k)))
+      (λ k. all-map (ownBoxes (fragment N S k)) (λ b f. subst (P (b .id)) (sym (f .0)) (f .1))
+      (all-both _ _ (ownBoxes (fragment N S k)) (own-made ℒ parts made k) (holds k)))
 
   -- A property that fails on a part fails on the whole.
-  pub corollary-IV-4 : (P : ℕ → Route → Type 0) (ℒ : ℕ → Route) (parts : ℕ → ℕ → Route) → MadeUp ℒ parts → (k : ℕ) → (Holds 𝓐 P (fragment N S k) (parts k) → ⊥) → Holds 𝓐 P N ℒ → ⊥
+  pub corollary-IV-4 : (P : ℕ → Route → Type 0) (ℒ : ℕ → Route) (parts : ℕ → ℕ → Route) → MadeUp ℒ parts → (k : ℕ)
+      → (Holds 𝓐 P (fragment N S k) (parts k) → ⊥) → Holds 𝓐 P N ℒ → ⊥
   corollary-IV-4 P ℒ parts made k fails holds = fails (all-map (ownBoxes (fragment N S k)) (λ b f. subst (P (b .id)) (f .0) (f .1))
-      (all-both _ _ (ownBoxes (fragment N S k)) (own-made ℒ parts made k) (anywhere N S (λ (m : ℕ) (b : Own Route Demand). P (b .id) (ℒ (b .id))) holds k)))
+      (all-both _ _ (ownBoxes (fragment N S k)) (own-made ℒ parts made k)
+      (anywhere N S (λ (m : ℕ) (b : Own Route Demand). P (b .id) (ℒ (b .id))) holds k)))

@@ -29,14 +29,16 @@ module _ (𝓐 : Algebra) (B : Bounds) (N : NetworkOver 𝓐) (L : RouteList (�
 
   module _ (number node count : ℕ) (route : Route) (e : judge 𝓐 N L ≡ given (found number node route count)) where
     first : First 𝓐 N L number node route 0 count 0 (ownBoxes N)
-    first = verdict-found 𝓐 N L number node route 0 count 0 (ownBoxes N) (own-rise N (sound .boxes-rise)) ((judge-given 𝓐 N L (found number node route count) e) .1)
+    first = verdict-found 𝓐 N L number node route 0 count 0 (ownBoxes N) (own-rise N (sound .boxes-rise))
+        ((judge-given 𝓐 N L (found number node route count) e) .1)
 
     -- a finding is the first one at an own box, and no own box with a lower id has any
     pub finding : (b : Own Route Demand) × (box N node ≡ some (own b)) × (fault 𝓐 N L b ≡ some (record { number = number; route = route }))
         × All (λ (d : Own Route Demand). d .id < node → fault 𝓐 N L d ≡ none) (ownBoxes N)
     finding = (
       first .named,
-      subst (λ (i : ℕ). box N i ≡ some (own (first .named))) (first .id-is) (first .there (λ (b : Own Route Demand). box N (b .id) ≡ some (own b)) (own-there N (sound .boxes-rise))),
+      subst (λ (i : ℕ). box N i ≡ some (own (first .named))) (first .id-is)
+          (first .there (λ (b : Own Route Demand). box N (b .id) ≡ some (own b)) (own-there N (sound .boxes-rise))),
       first .finds,
       first .before,
     )

@@ -43,7 +43,8 @@ module _ (𝓐 : Algebra) (B : Bounds) (N : NetworkOver 𝓐) (X Y Z : Sheet (�
         own-cut 𝓐 N X (first-fits N X Y Z formed fits third) w t,
         cut-answer 𝓐 (fragment N X (number X w)) Y (second-fits N X Y Z formed fits third (number X w)) (number Y w),
         both-numbered N X Y (number X w) (number Y w),
-        own-any N (λ (i : ℕ). eqb (number X i) (number X w) && eqb (number Y i) (number Y w)) w t (and-i _ _ (eq-eqb (number X w) (number X w) refl) (eq-eqb (number Y w) (number Y w) refl)),
+        own-any N (λ (i : ℕ). eqb (number X i) (number X w) && eqb (number Y i) (number Y w)) w t
+            (and-i _ _ (eq-eqb (number X w) (number X w) refl) (eq-eqb (number Y w) (number Y w) refl)),
         own-cut 𝓐 N Z fits w t,
       )
       (ap given (recut N X Y Z formed fits third (number X w) (number Y w) (number Z w) (λ i s. meet N X Y Z formed fits third i w s t)))

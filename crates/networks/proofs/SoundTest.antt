@@ -21,8 +21,16 @@ module _ {R P D : Type 0} (N : Network R P D) where
           differ = eqb-false (w .to) (w .from) (not-true (eqb (w .to) (w .from)) (h .1 .1 .0));
           policy-there = ltb-true (w .policy) (length (N .policies)) (h .1 .1 .1 .0);
         },
-    λ h. true-all (λ (t : Bool). t) (joinedTests N w)
-        (h .to-own, (h .from-there, (ap not (ne-eqb (w .to) (w .from) (h .differ)), (lt-ltb (w .policy) (length (N .policies)) (h .policy-there), tt)))),
+    λ h. true-all (λ (t : Bool). t) (joinedTests N w) (
+      h .to-own,
+      (
+        h .from-there,
+        (
+          ap not (ne-eqb (w .to) (w .from) (h .differ)),
+          (lt-ltb (w .policy) (length (N .policies)) (h .policy-there), tt),
+        ),
+      ),
+    ),
   )
 
   module _ (B : Bounds) where

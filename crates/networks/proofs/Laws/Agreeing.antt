@@ -28,12 +28,15 @@ module _ (𝓐 : Algebra) (N : NetworkOver 𝓐) (L M : RouteList (𝓐 .Route))
 
   same-fault : (b : Own Route Demand) → listed L (b .id) ≡ listed M (b .id) → fault 𝓐 N L b ≡ fault 𝓐 N M b
   unfolding fault
-  same-fault b e = ap₂ (λ (o : Option Route) (ℒ : ℕ → Route). firstFinding 𝓐 (Option·getD o noRoute) (due 𝓐 N ℒ b) (b .promise) (b .demand)) e same-mapping
+  same-fault b e = ap₂ (λ (o : Option Route) (ℒ : ℕ → Route). firstFinding 𝓐 (Option·getD o noRoute) (due 𝓐 N ℒ b) (b .promise)
+      (b .demand)) e same-mapping
 
-  same-verdict : (count : ℕ) (bs : List (Own Route Demand)) → All (λ (b : Own Route Demand). listed L (b .id) ≡ listed M (b .id)) bs → verdictFrom 𝓐 N L count bs ≡ verdictFrom 𝓐 N M count bs
+  same-verdict : (count : ℕ) (bs : List (Own Route Demand)) → All (λ (b : Own Route Demand). listed L (b .id) ≡ listed M (b .id)) bs
+      → verdictFrom 𝓐 N L count bs ≡ verdictFrom 𝓐 N M count bs
   unfolding verdictFrom
   same-verdict count [] h = refl
-  same-verdict count (b ∷ bs) h = ap₂ (λ (o : Option (Finding Route)) (v : Verdict Route). stop 𝓐 o (b .id) (suc count) v) (same-fault b (h .0)) (same-verdict (suc count) bs (h .1))
+  same-verdict count (b ∷ bs) h = ap₂ (λ (o : Option (Finding Route)) (v : Verdict Route). stop 𝓐 o (b .id) (suc count) v) (same-fault b (h .0))
+      (same-verdict (suc count) bs (h .1))
 
   same-unentered : (bs : List (Own Route Demand)) → All (λ (b : Own Route Demand). listed L (b .id) ≡ listed M (b .id)) bs
       → lowest (λ (b : Own Route Demand). not (isSome (listed L (b .id)))) bs ≡ lowest (λ (b : Own Route Demand). not (isSome (listed M (b .id)))) bs
@@ -42,4 +45,5 @@ module _ (𝓐 : Algebra) (N : NetworkOver 𝓐) (L M : RouteList (𝓐 .Route))
 
   pub same-judge : judge 𝓐 N L ≡ judge 𝓐 N M
   unfolding judge
-  same-judge = ap₂ (λ (o : Option ℕ) (v : Verdict Route). refuse 17 o (given v)) (same-unentered (ownBoxes N) agree) (same-verdict 0 (ownBoxes N) agree)
+  same-judge = ap₂ (λ (o : Option ℕ) (v : Verdict Route). refuse 17 o (given v)) (same-unentered (ownBoxes N) agree)
+      (same-verdict 0 (ownBoxes N) agree)

@@ -37,7 +37,8 @@ refused-given e = let z : _≡_ {A = ℕ} 0 1 = cc in omega arith
 pub refused-number : {A : Type 0} {n m p q : ℕ} → _≡_ {A = Answer A} (refused n p) (refused m q) → n ≡ m
 refused-number e = cc
 
-pub refuse-given : {A : Type 0} (number : ℕ) (place : Option ℕ) (below : Answer A) (x : A) → refuse number place below ≡ given x → (place ≡ none) × (below ≡ given x)
+pub refuse-given : {A : Type 0} (number : ℕ) (place : Option ℕ) (below : Answer A) (x : A) → refuse number place below ≡ given x
+    → (place ≡ none) × (below ≡ given x)
 refuse-given number none below x e = (refl, e)
 refuse-given number (some place) below x e = absurd (refused-given e)
 

@@ -14,9 +14,11 @@ use Rattle.lists.specs.Sorted.{Rises, rises-filterMap, find-key, find-all, find
 use Rattle.networks.specs.Network.{Own, Input, Box, own, input, Network, boxId, asOwn, asInput, isOwn, ownBoxes, inputs, box, owns}
 
 -- one kind of box, and the box that each of the kind is
-module _ {A R P D : Type 0} (N : Network R P D) (kind : Box R D → Option A) (make : A → Box R D) (same : (x : A) → kind (make x) ≡ some x) (only : (v : Box R D) (x : A) → kind v ≡ some x → v ≡ make x) where
+module _ {A R P D : Type 0} (N : Network R P D) (kind : Box R D → Option A) (make : A → Box R D) (same : (x : A) → kind (make x) ≡ some x)
+    (only : (v : Box R D) (x : A) → kind v ≡ some x → v ≡ make x) where
   found : (Q : A → Type 0) (i : ℕ) (x : A) → All Q (filterMap kind (N .boxes)) → box N i ≡ some (make x) → Q x
-  found Q i x h e = find-all boxId (λ (v : Box R D). (y : A) → kind v ≡ some y → Q y) i (N .boxes) (make x) (filterMap-all Q kind (N .boxes) h) e x (same x)
+  found Q i x h e = find-all boxId (λ (v : Box R D). (y : A) → kind v ≡ some y → Q y) i (N .boxes) (make x)
+      (filterMap-all Q kind (N .boxes) h) e x (same x)
 
   there : Rises boxId 0 (N .boxes) → All (λ (x : A). box N (boxId (make x)) ≡ some (make x)) (filterMap kind (N .boxes))
   there rise = all-filterMap (λ (x : A). box N (boxId (make x)) ≡ some (make x)) kind (N .boxes)
@@ -62,4 +64,5 @@ module _ {R P D : Type 0} (N : Network R P D) where
   pub own-any : (test : ℕ → Bool) (i : ℕ) → owns N i ≡ true → test i ≡ true → any (λ (b : Own R D). test (b .id)) (ownBoxes N) ≡ true
   own-any test i t e =
       let f = owned i t in
-      own-found (λ (b : Own R D). (p : Own R D → Bool) → p b ≡ true → any p (ownBoxes N) ≡ true) i (f .0) (any-here (ownBoxes N)) (f .1) (λ (b : Own R D). test (b .id)) (ap test (f .2) ∙ e)
+      own-found (λ (b : Own R D). (p : Own R D → Bool) → p b ≡ true → any p (ownBoxes N) ≡ true) i (f .0) (any-here (ownBoxes N)) (f .1)
+      (λ (b : Own R D). test (b .id)) (ap test (f .2) ∙ e)

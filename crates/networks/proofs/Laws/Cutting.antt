@@ -38,7 +38,8 @@ module _ (𝓐 : Algebra) where
   no-clash true (some q) none f = absurd (none-some (f refl q refl))
   no-clash true (some q) (some n) f = rw (some-inj (f refl q refl)) (ap not (same-self q))
 
-  clash-none : (left : Bool) (p n : Option Route) → isSome n ≡ true → left && offNote 𝓐 p n ≡ false → left ≡ true → (q : Route) → p ≡ some q → n ≡ some q
+  clash-none : (left : Bool) (p n : Option Route) → isSome n ≡ true → left && offNote 𝓐 p n ≡ false → left ≡ true → (q : Route) → p ≡ some q
+      → n ≡ some q
   clash-none false p n t e l q c = absurd (false≢true l)
   clash-none true none n t e l q c = absurd (none-some c)
   clash-none true (some x) none t e l q c = absurd (false≢true t)
@@ -50,7 +51,8 @@ module _ (𝓐 : Algebra) where
     clashing = lowest (clashes 𝓐 N S) (ownBoxes N)
 
     fits-none : Fits N S → clashing ≡ none
-    fits-none h = none-lowest (clashes 𝓐 N S) (ownBoxes N) (all-map (ownBoxes N) (λ b f. no-clash (leaves N S (b .id)) (b .promise) (note S (b .id)) f) (h .notes))
+    fits-none h = none-lowest (clashes 𝓐 N S) (ownBoxes N)
+        (all-map (ownBoxes N) (λ b f. no-clash (leaves N S (b .id)) (b .promise) (note S (b .id)) f) (h .notes))
 
     none-fits : unentered N (note S) ≡ none → clashing ≡ none → Fits N S
     none-fits e c = record {
@@ -59,7 +61,8 @@ module _ (𝓐 : Algebra) where
           (both (none-entered N (note S) e) (lowest-none (clashes 𝓐 N S) (ownBoxes N) c));
     }
       where
-        both : Entered N (note S) → All (λ (b : Own Route Demand). clashes 𝓐 N S b ≡ false) (ownBoxes N) → All (λ (b : Own Route Demand). (isSome (note S (b .id)) ≡ true) × (clashes 𝓐 N S b ≡ false)) (ownBoxes N)
+        both : Entered N (note S) → All (λ (b : Own Route Demand). clashes 𝓐 N S b ≡ false) (ownBoxes N)
+            → All (λ (b : Own Route Demand). (isSome (note S (b .id)) ≡ true) × (clashes 𝓐 N S b ≡ false)) (ownBoxes N)
         both = all-both _ _ (ownBoxes N)
 
     -- a sheet that fits leaves refusal 18
@@ -69,9 +72,11 @@ module _ (𝓐 : Algebra) where
 
     -- and so the fragment of every own box is given
     pub own-cut : Fits N S → (w : ℕ) → owns N w ≡ true → cut 𝓐 N S (number S w) ≡ given (fragment N S (number S w))
-    own-cut h w t = cut-answer h (number S w) ∙ rw (own-any N (λ (i : ℕ). eqb (number S i) (number S w)) w t (eq-eqb (number S w) (number S w) refl)) refl
+    own-cut h w t = cut-answer h (number S w) ∙ rw (own-any N (λ (i : ℕ). eqb (number S i) (number S w)) w t
+        (eq-eqb (number S w) (number S w) refl)) refl
 
-    pub cut-given : (k : ℕ) (F : Network Route Policy Demand) → cut 𝓐 N S k ≡ given F → Fits N S × (any (numbered N S k) (ownBoxes N) ≡ true) × (fragment N S k ≡ F)
+    pub cut-given : (k : ℕ) (F : Network Route Policy Demand) → cut 𝓐 N S k ≡ given F
+        → Fits N S × (any (numbered N S k) (ownBoxes N) ≡ true) × (fragment N S k ≡ F)
     unfolding cut
     cut-given k F e =
         let a = refuse-given 17 (unentered N (note S)) _ F e in
@@ -86,7 +91,11 @@ module _ (𝓐 : Algebra) where
     -- some own box has the number k, so that 18 does not stand before 19
     own-numbered : (bs : List (Own Route Demand)) → 0 < length bs → (k : ℕ) × (any (numbered N S k) bs ≡ true)
     own-numbered [] l = absurd (omega arith)
-    own-numbered (b ∷ bs) l = (number S (b .id), or-i-l _ (any (numbered N S (number S (b .id))) bs) (eq-eqb (number S (b .id)) (number S (b .id)) refl))
+    own-numbered (b ∷ bs) l = (
+      number S (b .id),
+      or-i-l _ (any (numbered N S (number S (b .id))) bs)
+          (eq-eqb (number S (b .id)) (number S (b .id)) refl),
+    )
 
     module _ (cuts : Cuts 𝓐 N S) where
       no-17 : unentered N (note S) ≡ none
@@ -103,7 +112,8 @@ module _ (𝓐 : Algebra) where
         where
           go : (o : Option ℕ) → clashing ≡ o → o ≡ none
           go none q = refl
-          go (some i) q = let f = own-numbered (ownBoxes N) l in absurd (let z : _≡_ {A = ℕ} 19 18 = cuts (f .0) 19 i (rw (no-17, f .1, q) refl) in omega arith)
+          go (some i) q = let f = own-numbered (ownBoxes N) l in absurd
+              (let z : _≡_ {A = ℕ} 19 18 = cuts (f .0) 19 i (rw (no-17, f .1, q) refl) in omega arith)
 
     pub cuts-fits : (B : Bounds) → Sound B N → Cuts 𝓐 N S ↔ Fits N S
     cuts-fits B sound = (

@@ -30,9 +30,12 @@ module _ {R : Type 0} where
 
   pub note-noted : (S : Sheet R) (i : ℕ) → listed (noted S) i ≡ note S i
   unfolding listed note
-  note-noted S i = rw (find-map (λ (e : SheetEntry R). e .id) (λ (e : ListEntry R). e .id) (λ (e : SheetEntry R). record { id = e .id; route = e .note }) (λ e. refl) i S) (go (sheetEntry S i))
+  note-noted S i = rw (find-map (λ (e : SheetEntry R). e .id) (λ (e : ListEntry R). e .id)
+      (λ (e : SheetEntry R). record { id = e .id; route = e .note }) (λ e. refl) i S) (go (sheetEntry S i))
     where
-      go : (o : Option (SheetEntry R)) → Option·map (λ (e : ListEntry R). e .route) (Option·map {B = ListEntry R} (λ (e : SheetEntry R). record { id = e .id; route = e .note }) o) ≡ Option·map (λ (e : SheetEntry R). e .note) o
+      go : (o : Option (SheetEntry R)) → Option·map (λ (e : ListEntry R). e .route)
+          (Option·map {B = ListEntry R} (λ (e : SheetEntry R). record { id = e .id; route = e .note }) o) ≡ Option·map
+          (λ (e : SheetEntry R). e .note) o
       go none = refl
       go (some e) = refl
 

@@ -30,15 +30,18 @@ sound-formed B N sound = record { rise = sound .boxes-rise; joined = sound .wire
 
 module _ {R P D : Type 0} (N : Network R P D) (S : Sheet R) (formed : Formed N) where
   -- a wire out of an own box is cut where the numbers of its ends differ
-  pub leaves-own : (i : ℕ) → owns N i ≡ true → leaves N S i ≡ any (λ (w : Wire). eqb (w .from) i && not (eqb (number S (w .to)) (number S i))) (N .wires)
+  pub leaves-own : (i : ℕ) → owns N i ≡ true → leaves N S i ≡ any (λ (w : Wire). eqb (w .from) i && not (eqb (number S (w .to)) (number S i)))
+      (N .wires)
   unfolding leaves
   leaves-own i t = any-congr _ _ (N .wires) (all-map (N .wires) at (formed .joined))
     where
       at : (w : Wire) → Joined N w
-          → eqb (w .from) i && (owns N (w .to) && (owns N (w .from) && not (eqb (number S (w .to)) (number S (w .from))))) ≡ eqb (w .from) i && not (eqb (number S (w .to)) (number S i))
+          → eqb (w .from) i && (owns N (w .to) && (owns N (w .from) && not (eqb (number S (w .to)) (number S (w .from))))) ≡ eqb
+          (w .from) i && not (eqb (number S (w .to)) (number S i))
       at w h = rw (h .to-own) (go (eqb (w .from) i) refl)
         where
-          go : (s : Bool) → eqb (w .from) i ≡ s → s && (owns N (w .from) && not (eqb (number S (w .to)) (number S (w .from)))) ≡ s && not (eqb (number S (w .to)) (number S i))
+          go : (s : Bool) → eqb (w .from) i ≡ s → s && (owns N (w .from) && not (eqb (number S (w .to)) (number S (w .from)))) ≡ s && not
+              (eqb (number S (w .to)) (number S i))
           go false q = refl
           go true q = rw (eqb-true (w .from) i q, t) refl
 
@@ -47,7 +50,8 @@ module _ {R P D : Type 0} (N : Network R P D) (S : Sheet R) (formed : Formed N) 
   unfolding feeds
   feeds-leaves κ i t out f = rw (leaves-own i t) (any-mono _ _ (N .wires) (all-map (N .wires) at (formed .joined)) f)
     where
-      at : (w : Wire) → Joined N w → eqb (w .from) i && κ (number S (w .to)) ≡ true → eqb (w .from) i && not (eqb (number S (w .to)) (number S i)) ≡ true
+      at : (w : Wire) → Joined N w → eqb (w .from) i && κ (number S (w .to)) ≡ true
+          → eqb (w .from) i && not (eqb (number S (w .to)) (number S i)) ≡ true
       at w h e = and-i _ _ (and-l (eqb (w .from) i) (κ (number S (w .to))) e)
           (ap not (ne-eqb (number S (w .to)) (number S i) (λ q. true≢false (sym (and-r (eqb (w .from) i) (κ (number S (w .to))) e) ∙ ap κ q ∙ out))))
 
@@ -70,11 +74,13 @@ module _ {R P D : Type 0} (N : Network R P D) (S : Sheet R) (formed : Formed N) 
 
     module _ (entered : Entered N (note S)) where
       -- the sender of a wire into the fragment is one of its boxes
-      is-box-piece : (v : Box R D) → ((b : Own R D) → v ≡ own b → isSome (note S (b .id)) ≡ true) → feeds N S κ (boxId v) ≡ true → isBox (piece N S κ v) ≡ true
+      is-box-piece : (v : Box R D) → ((b : Own R D) → v ≡ own b → isSome (note S (b .id)) ≡ true) → feeds N S κ (boxId v) ≡ true
+          → isBox (piece N S κ v) ≡ true
       is-box-piece (input a) h f = rw f refl
       is-box-piece (own b) h f = rw f (go (κ (number S (b .id))) (isSome-true (note S (b .id)) (h b refl)))
         where
-          go : (s : Bool) → (n : R) × (note S (b .id) ≡ some n) → isBox (cond s (some (own (promising N S b))) (Option·map (assuming b) (note S (b .id)))) ≡ true
+          go : (s : Bool) → (n : R) × (note S (b .id) ≡ some n)
+              → isBox (cond s (some (own (promising N S b))) (Option·map (assuming b) (note S (b .id)))) ≡ true
           go true n = refl
           go false n = rw (n .1) refl
 
@@ -92,13 +98,16 @@ module _ {R P D : Type 0} (N : Network R P D) (S : Sheet R) (formed : Formed N) 
       unfolding fragmentOf feeds
       fragment-formed = record {
         rise = pieces-rise N S κ (formed .rise);
-        joined = all-filter _ (λ (w : Wire). κ (number S (w .to))) (N .wires) (all-map (N .wires) at (all-both _ _ (N .wires) (formed .joined) (any-here (N .wires))));
+        joined = all-filter _ (λ (w : Wire). κ (number S (w .to))) (N .wires)
+            (all-map (N .wires) at (all-both _ _ (N .wires) (formed .joined) (any-here (N .wires))));
       }
         where
-          at : (w : Wire) → Joined N w × ((test : Wire → Bool) → test w ≡ true → any test (N .wires) ≡ true) → κ (number S (w .to)) ≡ true → Joined (fragmentOf N S κ) w
+          at : (w : Wire) → Joined N w × ((test : Wire → Bool) → test w ≡ true → any test (N .wires) ≡ true) → κ (number S (w .to)) ≡ true
+              → Joined (fragmentOf N S κ) w
           at w h t = record {
             to-own = owns-fragment (w .to) (h .0 .to-own) ∙ t;
-            from-there = sender-there (w .from) (h .0 .from-there) (h .1 (λ (x : Wire). eqb (x .from) (w .from) && κ (number S (x .to))) (and-i _ _ (eq-eqb (w .from) _ refl) t));
+            from-there = sender-there (w .from) (h .0 .from-there)
+                (h .1 (λ (x : Wire). eqb (x .from) (w .from) && κ (number S (x .to))) (and-i _ _ (eq-eqb (w .from) _ refl) t));
             differ = h .0 .differ;
             policy-there = h .0 .policy-there;
           }

@@ -56,7 +56,8 @@ module _ (𝓐 : Algebra) where
 
     -- what is found at a box
     pub fault-none : (b : Own Route Demand) → fault 𝓐 N L b ≡ none
-        → (held 𝓐 L (b .id) ≡ due 𝓐 N (mapping 𝓐 N L) b) × ((q : Route) → b .promise ≡ some q → held 𝓐 L (b .id) ≡ q) × (meets (b .demand) (held 𝓐 L (b .id)) ≡ true)
+        → (held 𝓐 L (b .id) ≡ due 𝓐 N (mapping 𝓐 N L) b) × ((q : Route) → b .promise ≡ some q → held 𝓐 L (b .id) ≡ q)
+        × (meets (b .demand) (held 𝓐 L (b .id)) ≡ true)
     unfolding fault
     fault-none b e =
         let s = cond-off _ _ _ none (λ z. none-some (sym z)) e in
@@ -64,13 +65,15 @@ module _ (𝓐 : Algebra) where
         let u = cond-off _ _ _ none (λ z. none-some (sym z)) (t .1) in
         (unequal _ _ (s .0), keeps (b .promise) _ (t .0), not-false _ (u .0))
 
-    pub none-fault : (b : Own Route Demand) → held 𝓐 L (b .id) ≡ due 𝓐 N (mapping 𝓐 N L) b → ((q : Route) → b .promise ≡ some q → held 𝓐 L (b .id) ≡ q) → meets (b .demand) (held 𝓐 L (b .id)) ≡ true
+    pub none-fault : (b : Own Route Demand) → held 𝓐 L (b .id) ≡ due 𝓐 N (mapping 𝓐 N L) b
+        → ((q : Route) → b .promise ≡ some q → held 𝓐 L (b .id) ≡ q) → meets (b .demand) (held 𝓐 L (b .id)) ≡ true
         → fault 𝓐 N L b ≡ none
     unfolding fault
     none-fault b e f t = rw (equal _ _ e, kept (b .promise) _ f, t) refl
 
     -- the verdict
-    pub pass-verdict : (c m : ℕ) (bs : List (Own Route Demand)) → verdictFrom 𝓐 N L c bs ≡ pass m → All (λ (b : Own Route Demand). fault 𝓐 N L b ≡ none) bs × (m ≡ c + length bs)
+    pub pass-verdict : (c m : ℕ) (bs : List (Own Route Demand)) → verdictFrom 𝓐 N L c bs ≡ pass m
+        → All (λ (b : Own Route Demand). fault 𝓐 N L b ≡ none) bs × (m ≡ c + length bs)
     unfolding verdictFrom
     pass-verdict c m [] e = (tt, let z : m ≡ c = cc in omega arith)
     pass-verdict c m (b ∷ bs) e = go _ (fault 𝓐 N L b) refl e (pass-verdict (suc c) m bs)
@@ -81,7 +84,8 @@ module _ (𝓐 : Algebra) where
         go count none q z r = let s = r z in ((q, s .0), let y : m ≡ suc c + length bs = s .1 in omega arith)
         go count (some f) q z r = absurd (let y : _≡_ {A = ℕ} 0 1 = cc in omega arith)
 
-    pub verdict-pass : (c : ℕ) (bs : List (Own Route Demand)) → All (λ (b : Own Route Demand). fault 𝓐 N L b ≡ none) bs → verdictFrom 𝓐 N L c bs ≡ pass (c + length bs)
+    pub verdict-pass : (c : ℕ) (bs : List (Own Route Demand)) → All (λ (b : Own Route Demand). fault 𝓐 N L b ≡ none) bs
+        → verdictFrom 𝓐 N L c bs ≡ pass (c + length bs)
     unfolding verdictFrom
     verdict-pass c [] h = ap pass (sym (add-zero c))
     verdict-pass c (b ∷ bs) h = rw (h .0) (verdict-pass (suc c) bs (h .1) ∙ ap pass (omega arith))
@@ -102,7 +106,8 @@ module _ (𝓐 : Algebra) where
     verdict-found n i r c m lo [] h e = absurd (let y : _≡_ {A = ℕ} 0 1 = cc in omega arith)
     verdict-found n i r c m lo (b ∷ bs) h e = go (fault 𝓐 N L b) refl e (verdict-found n i r (suc c) m (suc (b .id)) bs (h .1))
       where
-        later : (lo : ℕ) (ds : List (Own Route Demand)) → b .id < lo → Rises (λ (d : Own Route Demand). d .id) lo ds → All (λ (d : Own Route Demand). d .id < b .id → fault 𝓐 N L d ≡ none) ds
+        later : (lo : ℕ) (ds : List (Own Route Demand)) → b .id < lo → Rises (λ (d : Own Route Demand). d .id) lo ds
+            → All (λ (d : Own Route Demand). d .id < b .id → fault 𝓐 N L d ≡ none) ds
         later lo [] l k = tt
         later lo (d ∷ ds) l k = (λ z. absurd (omega arith), later (suc (d .id)) ds (omega arith) (k .1))
 
@@ -129,9 +134,14 @@ module _ (𝓐 : Algebra) where
               there = λ Q a. a .0;
               id-is = j;
               finds = q ∙ ap some (λ t. record { number = number-is t; route = route-is t });
-              before = (λ l. absurd (omega arith), subst (λ (s : ℕ). All (λ (d : Own Route Demand). d .id < s → fault 𝓐 N L d ≡ none) bs) j (later (suc (b .id)) bs (omega arith) (h .1)));
+              before = (
+                λ l. absurd (omega arith),
+                subst (λ (s : ℕ). All (λ (d : Own Route Demand). d .id < s → fault 𝓐 N L d ≡ none) bs) j
+                    (later (suc (b .id)) bs (omega arith) (h .1)),
+              );
               above = omega arith;
-              counted = rw (le-leb (b .id) i (omega arith), filter-low (λ (d : Own Route Demand). d .id) i (suc (b .id)) bs (omega arith) (h .1)) (omega arith);
+              counted = rw (le-leb (b .id) i (omega arith), filter-low (λ (d : Own Route Demand). d .id) i (suc (b .id)) bs (omega arith) (h .1))
+                  (omega arith);
             }
           where
             number-is : f .number ≡ n
@@ -143,7 +153,8 @@ module _ (𝓐 : Algebra) where
     -- the answer
     pub judge-given : (v : Verdict Route) → judge 𝓐 N L ≡ given v → Entered N (listed L) × (verdictFrom 𝓐 N L 0 (ownBoxes N) ≡ v)
     unfolding judge
-    judge-given v e = let s = refuse-given 17 (unentered N (listed L)) (given (verdictFrom 𝓐 N L 0 (ownBoxes N))) v e in (none-entered N (listed L) (s .0), given-same (s .1))
+    judge-given v e = let s = refuse-given 17 (unentered N (listed L)) (given (verdictFrom 𝓐 N L 0 (ownBoxes N))) v e in
+        (none-entered N (listed L) (s .0), given-same (s .1))
 
     module _ (rise : Rises boxId 0 (N .boxes)) where
       pub own-held : All (λ (b : Own Route Demand). mapping 𝓐 N L (b .id) ≡ held 𝓐 L (b .id)) (ownBoxes N)
@@ -163,7 +174,8 @@ module _ (𝓐 : Algebra) where
           facts = all-both _ _ (ownBoxes N) own-held h
 
       faultless : Solution 𝓐 N (mapping 𝓐 N L) → Demands 𝓐 N (mapping 𝓐 N L) → All (λ (b : Own Route Demand). fault 𝓐 N L b ≡ none) (ownBoxes N)
-      faultless h d = all-map (ownBoxes N) (λ b f. none-fault b (sym (f .0) ∙ f .1 .0) (λ q e. sym (f .0) ∙ f .1 .1 .0 q e) (rw (f .0) at (f .1 .1 .1)))
+      faultless h d = all-map (ownBoxes N) (λ b f. none-fault b (sym (f .0) ∙ f .1 .0) (λ q e. sym (f .0) ∙ f .1 .1 .0 q e)
+          (rw (f .0) at (f .1 .1 .1)))
           (all-both _ _ (ownBoxes N) own-held (all-both _ _ (ownBoxes N) (h .equation-6) (all-both _ _ (ownBoxes N) (h .equation-8) d)))
 
       pub passes-solved : Passes 𝓐 N L ↔ (Entered N (listed L) × Solution 𝓐 N (mapping 𝓐 N L) × Demands 𝓐 N (mapping 𝓐 N L))
@@ -173,5 +185,6 @@ module _ (𝓐 : Algebra) where
             let g = judge-given (pass (length (ownBoxes N))) e in
             let s = solved ((pass-verdict 0 (length (ownBoxes N)) (ownBoxes N) (g .1)) .0) in
             (g .0, s .0, s .1),
-        λ h. rw (entered-none N (listed L) (h .0)) (ap given (verdict-pass 0 (ownBoxes N) (faultless (h .1) (h .2)) ∙ ap pass (zero-add (length (ownBoxes N))))),
+        λ h. rw (entered-none N (listed L) (h .0)) (ap given
+            (verdict-pass 0 (ownBoxes N) (faultless (h .1) (h .2)) ∙ ap pass (zero-add (length (ownBoxes N))))),
       )

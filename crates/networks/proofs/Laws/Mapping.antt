@@ -23,10 +23,12 @@ module _ (𝓐 : Algebra) (N : NetworkOver 𝓐) (S : Sheet (𝓐 .Route)) (L : 
 
   module _ (formed : Formed N) (agrees : Agrees N S (listed L)) where
     -- an own box that feeds the fragment from outside is left by a cut wire, so that its note is its listed route
-    kept-route : (i : ℕ) (v : Box Route Demand) → box N i ≡ some v → isBox (piece N S (only k) v) ≡ true → routeOf L (piece N S (only k) v) ≡ routeOf L (some v)
+    kept-route : (i : ℕ) (v : Box Route Demand) → box N i ≡ some v → isBox (piece N S (only k) v) ≡ true
+        → routeOf L (piece N S (only k) v) ≡ routeOf L (some v)
     kept-route i (input a) q = go (feeds N S (only k) (a .id))
       where
-        go : (t : Bool) → isBox {R = Route} {D = Demand} (cond t (some (input a)) none) ≡ true → routeOf {R = Route} {D = Demand} L (cond t (some (input a)) none) ≡ some (a .assumed)
+        go : (t : Bool) → isBox {R = Route} {D = Demand} (cond t (some (input a)) none) ≡ true
+            → routeOf {R = Route} {D = Demand} L (cond t (some (input a)) none) ≡ some (a .assumed)
         go true e = refl
         go false e = absurd (false≢true e)
     kept-route i (own b) q = go (only k (number S (b .id))) refl (feeds N S (only k) (b .id)) refl (note S (b .id)) refl

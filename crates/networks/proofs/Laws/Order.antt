@@ -40,12 +40,19 @@ module _ (𝓐 : Algebra) (choice : Choice 𝓐) where
 
   pub bestOf-each : (r : Route) (ss : List Route) → All (λ (s : Route). AtLeast 𝓐 (bestOf 𝓐 r ss) s) ss
   bestOf-each r [] = tt
-  bestOf-each r (s ∷ ss) = (at-least-on (bestOf 𝓐 (best r s) ss) (best r s) s (bestOf-first (best r s) ss) (best-second r s), bestOf-each (best r s) ss)
+  bestOf-each r (s ∷ ss) = (
+    at-least-on (bestOf 𝓐 (best r s) ss) (best r s) s (bestOf-first (best r s) ss) (best-second r s),
+    bestOf-each
+        (best r s) ss,
+  )
 
   pub bestOf-one : (r : Route) (ss : List Route) → (bestOf 𝓐 r ss ≡ r) ⊎ (any (same (bestOf 𝓐 r ss)) ss ≡ true)
   bestOf-one r [] = inl refl
-  bestOf-one r (s ∷ ss) = ⊎-elim (λ (e : bestOf 𝓐 (best r s) ss ≡ best r s). ⊎-elim (λ (f : best r s ≡ r). inl (e ∙ f)) (λ (f : best r s ≡ s). inr (or-i-l (same (bestOf 𝓐 (best r s) ss) s) (any (same (bestOf 𝓐 (best r s) ss)) ss) (found (e ∙ f)))) (choice .selective r s))
-      (λ (t : any (same (bestOf 𝓐 (best r s) ss)) ss ≡ true). inr (or-i-r (same (bestOf 𝓐 (best r s) ss) s) (any (same (bestOf 𝓐 (best r s) ss)) ss) t)) (bestOf-one (best r s) ss)
+  bestOf-one r (s ∷ ss) = ⊎-elim (λ (e : bestOf 𝓐 (best r s) ss ≡ best r s). ⊎-elim (λ (f : best r s ≡ r). inl (e ∙ f))
+      (λ (f : best r s ≡ s). inr (or-i-l (same (bestOf 𝓐 (best r s) ss) s) (any (same (bestOf 𝓐 (best r s) ss)) ss) (found (e ∙ f))))
+      (choice .selective r s))
+      (λ (t : any (same (bestOf 𝓐 (best r s) ss)) ss ≡ true). inr
+      (or-i-r (same (bestOf 𝓐 (best r s) ss) s) (any (same (bestOf 𝓐 (best r s) ss)) ss) t)) (bestOf-one (best r s) ss)
     where
       found : bestOf 𝓐 (best r s) ss ≡ s → same (bestOf 𝓐 (best r s) ss) s ≡ true
       found e = rw e (same-self s)

@@ -51,7 +51,8 @@ module _ {R P D : Type 0} (N : Network R P D) (S : Sheet R) (κ : ℕ → Bool) 
   unfolding bind
   own-piece (own b) = go (mine b) (feeds N S κ (b .id)) (note S (b .id))
     where
-      go : (s t : Bool) (n : Option R) → bind (cond s (some (own (promising N S b))) (cond t (Option·map (assuming b) n) none)) asOwn ≡ cond s (some (promising N S b)) none
+      go : (s t : Bool) (n : Option R) → bind (cond s (some (own (promising N S b))) (cond t (Option·map (assuming b) n) none)) asOwn ≡ cond s
+          (some (promising N S b)) none
       go true t n = refl
       go false true (some n) = refl
       go false true none = refl
@@ -71,16 +72,21 @@ module _ {R P D : Type 0} (N : Network R P D) (S : Sheet R) (κ : ℕ → Bool) 
       ∙ sym (filterMap-filterMap asOwn (λ (b : Own R D). cond (mine b) (some (promising N S b)) none) (N .boxes))
       ∙ sym (map-filter (promising N S) mine (ownBoxes N))
 
-  pub own-kept : (Q : Own R D → Type 0) → All (λ (b : Own R D). κ (number S (b .id)) ≡ true → Q (promising N S b)) (ownBoxes N) → All Q (ownBoxes (fragmentOf N S κ))
-  own-kept Q h = rw own-boxes-fragment (all-mapped Q (promising N S) (filter mine (ownBoxes N)) (all-filter (λ (b : Own R D). Q (promising N S b)) mine (ownBoxes N) h))
+  pub own-kept : (Q : Own R D → Type 0) → All (λ (b : Own R D). κ (number S (b .id)) ≡ true → Q (promising N S b)) (ownBoxes N)
+      → All Q (ownBoxes (fragmentOf N S κ))
+  own-kept Q h = rw own-boxes-fragment (all-mapped Q (promising N S) (filter mine (ownBoxes N))
+      (all-filter (λ (b : Own R D). Q (promising N S b)) mine (ownBoxes N) h))
 
-  pub kept-own : (Q : Own R D → Type 0) → All Q (ownBoxes (fragmentOf N S κ)) → All (λ (b : Own R D). κ (number S (b .id)) ≡ true → Q (promising N S b)) (ownBoxes N)
-  kept-own Q h = filtered-all (λ (b : Own R D). Q (promising N S b)) mine (ownBoxes N) (mapped-all Q (promising N S) (filter mine (ownBoxes N)) (rw own-boxes-fragment at h))
+  pub kept-own : (Q : Own R D → Type 0) → All Q (ownBoxes (fragmentOf N S κ))
+      → All (λ (b : Own R D). κ (number S (b .id)) ≡ true → Q (promising N S b)) (ownBoxes N)
+  kept-own Q h = filtered-all (λ (b : Own R D). Q (promising N S b)) mine (ownBoxes N)
+      (mapped-all Q (promising N S) (filter mine (ownBoxes N)) (rw own-boxes-fragment at h))
 
   -- inputs: those of the network that feed the fragment, and the own boxes of other numbers that do
   pub inputs-kept : (Q : Input R → Type 0)
       → All (λ (a : Input R). feeds N S κ (a .id) ≡ true → Q a) (inputs N)
-      → All (λ (b : Own R D). κ (number S (b .id)) ≡ false → feeds N S κ (b .id) ≡ true → (n : R) → note S (b .id) ≡ some n → Q (record { id = b .id; assumed = n })) (ownBoxes N)
+      → All (λ (b : Own R D). κ (number S (b .id)) ≡ false → feeds N S κ (b .id) ≡ true → (n : R) → note S (b .id) ≡ some n
+      → Q (record { id = b .id; assumed = n })) (ownBoxes N)
       → All Q (inputs (fragmentOf N S κ))
   unfolding fragmentOf
   inputs-kept Q h k = all-filterMap Q asInput _ (all-filterMap _ (piece N S κ) (N .boxes)
@@ -88,7 +94,8 @@ module _ {R P D : Type 0} (N : Network R P D) (S : Sheet R) (κ : ℕ → Bool) 
     where
       at : (v : Box R D)
           → ((a : Input R) → asInput v ≡ some a → feeds N S κ (a .id) ≡ true → Q a)
-          × ((b : Own R D) → asOwn v ≡ some b → κ (number S (b .id)) ≡ false → feeds N S κ (b .id) ≡ true → (n : R) → note S (b .id) ≡ some n → Q (record { id = b .id; assumed = n }))
+          × ((b : Own R D) → asOwn v ≡ some b → κ (number S (b .id)) ≡ false → feeds N S κ (b .id) ≡ true → (n : R) → note S (b .id) ≡ some n
+          → Q (record { id = b .id; assumed = n }))
           → (w : Box R D) → piece N S κ v ≡ some w → (a : Input R) → asInput w ≡ some a → Q a
       at (input c) f w e a q = go (feeds N S κ (c .id)) refl e
         where
@@ -106,7 +113,8 @@ module _ {R P D : Type 0} (N : Network R P D) (S : Sheet R) (κ : ℕ → Bool) 
 
   pub kept-inputs : (Q : Input R → Type 0) → All Q (inputs (fragmentOf N S κ)) → All (λ (a : Input R). feeds N S κ (a .id) ≡ true → Q a) (inputs N)
   unfolding fragmentOf
-  kept-inputs Q h = all-filterMap _ asInput (N .boxes) (all-map (N .boxes) at (filterMap-all _ (piece N S κ) (N .boxes) (filterMap-all Q asInput _ h)))
+  kept-inputs Q h = all-filterMap _ asInput (N .boxes)
+      (all-map (N .boxes) at (filterMap-all _ (piece N S κ) (N .boxes) (filterMap-all Q asInput _ h)))
     where
       at : (v : Box R D) → ((w : Box R D) → piece N S κ v ≡ some w → (a : Input R) → asInput w ≡ some a → Q a)
           → (a : Input R) → asInput v ≡ some a → feeds N S κ (a .id) ≡ true → Q a

@@ -26,7 +26,8 @@ use Rattle.networks.proofs.Laws.Formed.{Formed, fragment-formed}
 
 -- what holds at every id: it has no box, an input or an own box
 by-box : {R P D : Type 0} (N : Network R P D) (Q : ℕ → Type 0)
-    → ((i : ℕ) → box N i ≡ none → Q i) → ((a : Input R) → box N (a .id) ≡ some (input a) → Q (a .id)) → ((b : Own R D) → box N (b .id) ≡ some (own b) → Q (b .id))
+    → ((i : ℕ) → box N i ≡ none → Q i) → ((a : Input R) → box N (a .id) ≡ some (input a) → Q (a .id))
+    → ((b : Own R D) → box N (b .id) ≡ some (own b) → Q (b .id))
     → (i : ℕ) → Q i
 by-box {R} {P} {D} N Q f g h i = go (box N i) refl
   where
@@ -50,7 +51,8 @@ module _ {R P D : Type 0} (N : Network R P D) (S : Sheet R) (k : ℕ) (formed : 
       at : (w : Wire) → Joined N w → eqb (w .from) u && (isCut N S w && W N S k (w .to)) ≡ false
       at w h = rw (h .to-own) (go (eqb (w .from) u) refl)
         where
-          go : (t : Bool) → eqb (w .from) u ≡ t → t && ((owns N (w .from) && not (eqb (number S (w .to)) (number S (w .from)))) && only k (number S (w .to))) ≡ false
+          go : (t : Bool) → eqb (w .from) u ≡ t → t && ((owns N (w .from) && not (eqb (number S (w .to)) (number S (w .from)))) && only k
+              (number S (w .to))) ≡ false
           go false q = refl
           go true q = rw (eqb-true (w .from) u q, f) refl
 
@@ -74,7 +76,8 @@ module _ {R P D : Type 0} (N : Network R P D) (S : Sheet R) (k : ℕ) (formed : 
           let w = f .0 in
           let g = parts w (f .2) in
           and-i _ _
-          (ap not (ne-eqb (number S u) k (λ q. eqb-false (number S (w .to)) (number S (w .from)) (not-true _ (g .1)) (eqb-true (number S (w .to)) k (g .2) ∙ sym q ∙ ap (number S) (sym (g .0))))))
+          (ap not (ne-eqb (number S u) k (λ q. eqb-false (number S (w .to)) (number S (w .from)) (not-true _ (g .1))
+          (eqb-true (number S (w .to)) k (g .2) ∙ sym q ∙ ap (number S) (sym (g .0))))))
           (any-mono _ _ (N .wires) (all-of (N .wires) (λ v h. let p = parts v h in and-i _ _ (eq-eqb (v .from) u (p .0)) (p .2))) e)
 
       back : not (only k (number S u)) && any (λ (w : Wire). eqb (w .from) u && only k (number S (w .to))) (N .wires) ≡ true → cutInto N S k u ≡ true
@@ -83,12 +86,15 @@ module _ {R P D : Type 0} (N : Network R P D) (S : Sheet R) (k : ℕ) (formed : 
           out : number S u ≡ k → ⊥
           out = eqb-false (number S u) k (not-true (only k (number S u)) (and-l (not (only k (number S u))) _ e))
 
-          at : (w : Wire) → Joined N w → eqb (w .from) u && only k (number S (w .to)) ≡ true → eqb (w .from) u && (isCut N S w && W N S k (w .to)) ≡ true
+          at : (w : Wire) → Joined N w → eqb (w .from) u && only k (number S (w .to)) ≡ true
+              → eqb (w .from) u && (isCut N S w && W N S k (w .to)) ≡ true
           at w h f =
               let p : w .from ≡ u = eqb-true (w .from) u (and-l (eqb (w .from) u) (only k (number S (w .to))) f) in
               let q : only k (number S (w .to)) ≡ true = and-r (eqb (w .from) u) (only k (number S (w .to))) f in
               and-i _ _ (eq-eqb (w .from) u p) (and-i _ _
-              (and-i _ _ (h .to-own) (and-i _ _ (ap (owns N) p ∙ t) (ap not (ne-eqb (number S (w .to)) (number S (w .from)) (λ z. out (sym (z ∙ ap (number S) p) ∙ eqb-true (number S (w .to)) k q))))))
+              (and-i _ _ (h .to-own) (and-i _ _ (ap (owns N) p ∙ t)
+              (ap not (ne-eqb (number S (w .to)) (number S (w .from))
+              (λ z. out (sym (z ∙ ap (number S) p) ∙ eqb-true (number S (w .to)) k q))))))
               (and-i _ _ (h .to-own) q))
 
   -- the parts at one id
@@ -156,7 +162,8 @@ module _ {R P D : Type 0} (N : Network R P D) (S : Sheet R) (k : ℕ) (formed : 
 
   at-own : (b : Own R D) → box N (b .id) ≡ some (own b) → At (b .id)
   unfolding bind
-  at-own b q = go (only k (number S (b .id))) refl (feeds N S (only k) (b .id)) refl (isSome-true (note S (b .id)) (own-found N (λ (c : Own R D). isSome (note S (c .id)) ≡ true) (b .id) b entered q))
+  at-own b q = go (only k (number S (b .id))) refl (feeds N S (only k) (b .id)) refl
+      (isSome-true (note S (b .id)) (own-found N (λ (c : Own R D). isSome (note S (c .id)) ≡ true) (b .id) b entered q))
     where
       piece-is : box F (b .id) ≡ piece N S (only k) (own b)
       piece-is = rw (box-piece N S (only k) (formed .rise) (b .id), q) refl
@@ -237,8 +244,11 @@ module _ {R P D : Type 0} (N : Network R P D) (S : Sheet R) (k : ℕ) (formed : 
       back e =
           let b : E-k N S k u v ≡ true = and-l (E-k N S k u v) (not (V-in-k N S k v)) e in
           let r = and-r (V-k N S k u) (V-k N S k v && E N u v) b in
-          let m : only k (number S v) ≡ true = inside (V-in-k N S k v) (not-true (V-in-k N S k v) (and-r (E-k N S k u v) (not (V-in-k N S k v)) e)) (and-l (V-k N S k v) (E N u v) r) in
-          kept-edge u v ∙ any-mono _ _ (N .wires) (all-of (N .wires) (λ x h. and-i _ _ (ap (λ (j : ℕ). only k (number S j)) (eqb-true (x .to) v (and-r (eqb (x .from) u) (eqb (x .to) v) h)) ∙ m) h)) (and-r (V-k N S k v) (E N u v) r)
+          let m : only k (number S v) ≡ true = inside (V-in-k N S k v)
+          (not-true (V-in-k N S k v) (and-r (E-k N S k u v) (not (V-in-k N S k v)) e)) (and-l (V-k N S k v) (E N u v) r) in
+          kept-edge u v ∙ any-mono _ _ (N .wires) (all-of (N .wires)
+          (λ x h. and-i _ _ (ap (λ (j : ℕ). only k (number S j)) (eqb-true (x .to) v (and-r (eqb (x .from) u) (eqb (x .to) v) h)) ∙ m) h))
+          (and-r (V-k N S k v) (E N u v) r)
         where
           inside : (i : Bool) → i ≡ false → W N S k v || i ≡ true → only k (number S v) ≡ true
           inside true z t = absurd (true≢false z)

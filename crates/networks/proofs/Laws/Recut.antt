@@ -73,9 +73,11 @@ module _ {R P D : Type 0} (N : Network R P D) (X Y Z : Sheet R) (formed : Formed
   noted : (i : ℕ) → owns N i ≡ true → isSome (note Z i) ≡ true
   noted i = own-fact N (λ (j : ℕ). isSome (note Z j) ≡ true) i (fits .entered)
 
-  pub meet : (u v : ℕ) → owns N u ≡ true → owns N v ≡ true → eqb (number Z u) (number Z v) ≡ eqb (number X u) (number X v) && eqb (number Y u) (number Y v)
+  pub meet : (u v : ℕ) → owns N u ≡ true → owns N v ≡ true
+      → eqb (number Z u) (number Z v) ≡ eqb (number X u) (number X v) && eqb (number Y u) (number Y v)
   meet u v p q = same-test _ _
-      (λ e. let f = (third .together u v (noted u p) (noted v q)) .0 (eqb-true (number Z u) (number Z v) e) in and-i _ _ (eq-eqb _ _ (f .0)) (eq-eqb _ _ (f .1)))
+      (λ e. let f = (third .together u v (noted u p) (noted v q)) .0 (eqb-true (number Z u) (number Z v) e) in and-i _ _ (eq-eqb _ _ (f .0))
+      (eq-eqb _ _ (f .1)))
       (λ e. eq-eqb _ _ ((third .together u v (noted u p) (noted v q)) .1 (
         eqb-true (number X u) (number X v) (and-l (eqb (number X u) (number X v)) (eqb (number Y u) (number Y v)) e),
         eqb-true (number Y u) (number Y v) (and-r (eqb (number X u) (number X v)) (eqb (number Y u) (number Y v)) e),
@@ -87,7 +89,8 @@ module _ {R P D : Type 0} (N : Network R P D) (X Y Z : Sheet R) (formed : Formed
 
   first-leaves : (i : ℕ) → owns N i ≡ true → leaves N X i ≡ true → leaves N Z i ≡ true
   first-leaves i t = rw (leaves-own N X formed i t, leaves-own N Z formed i t) (any-mono _ _ (N .wires)
-      (all-map (N .wires) (λ w h e. rw (meet (w .to) i (h .to-own) t) (leave-first (eqb (w .from) i) (eqb (number X (w .to)) (number X i)) (eqb (number Y (w .to)) (number Y i)) e)) (formed .joined)))
+      (all-map (N .wires) (λ w h e. rw (meet (w .to) i (h .to-own) t)
+      (leave-first (eqb (w .from) i) (eqb (number X (w .to)) (number X i)) (eqb (number Y (w .to)) (number Y i)) e)) (formed .joined)))
 
   pub first-fits : Fits N X
   first-fits = record {
@@ -115,7 +118,9 @@ module _ {R P D : Type 0} (N : Network R P D) (X Y Z : Sheet R) (formed : Formed
 
     second-leaves : (i : ℕ) → owns N i ≡ true → eqb (number X i) x ≡ true → leaves inner Y i ≡ true → leaves N Z i ≡ true
     second-leaves i t e = rw (inner-leaves i t e, leaves-own N Z formed i t) (any-mono _ _ (N .wires)
-        (all-map (N .wires) (λ w h f. rw (meet (w .to) i (h .to-own) t) (leave-second (eqb (number X (w .to)) x) (eqb (w .from) i) (eqb (number X (w .to)) (number X i)) (eqb (number Y (w .to)) (number Y i)) f)) (formed .joined)))
+        (all-map (N .wires) (λ w h f. rw (meet (w .to) i (h .to-own) t)
+        (leave-second (eqb (number X (w .to)) x) (eqb (w .from) i) (eqb (number X (w .to)) (number X i))
+        (eqb (number Y (w .to)) (number Y i)) f)) (formed .joined)))
 
     pub second-fits : Fits inner Y
     second-fits = record {
@@ -123,7 +128,8 @@ module _ {R P D : Type 0} (N : Network R P D) (X Y Z : Sheet R) (formed : Formed
       notes = own-kept N X (only x) _ (own-all _ (all-map (ownBoxes N) at (fits .notes)));
     }
       where
-        promise : (i : ℕ) (p : Option R) (l : Bool) → ((q : R) → p ≡ some q → note Z i ≡ some q) → (q : R) → promised p l (note X i) ≡ some q → note Y i ≡ some q
+        promise : (i : ℕ) (p : Option R) (l : Bool) → ((q : R) → p ≡ some q → note Z i ≡ some q) → (q : R) → promised p l (note X i) ≡ some q
+            → note Y i ≡ some q
         promise i (some r) l f q e = third .second-notes i ∙ f q e
         promise i none true f q e = third .second-notes i ∙ sym (third .first-notes i) ∙ e
         promise i none false f q e = absurd (none-some e)
@@ -142,11 +148,13 @@ module _ {R P D : Type 0} (N : Network R P D) (X Y Z : Sheet R) (formed : Formed
       same-feeds i =
           any-filter (λ (w : Wire). only x (number X (w .to))) (λ (w : Wire). eqb (w .from) i && only y (number Y (w .to))) (N .wires)
           ∙ any-congr _ _ (N .wires) (all-map (N .wires)
-          (λ w h. and-turn (only x (number X (w .to))) (eqb (w .from) i) (only y (number Y (w .to))) ∙ ap (_&&_ (eqb (w .from) i)) (sym h)) wire-meets)
+          (λ w h. and-turn (only x (number X (w .to))) (eqb (w .from) i) (only y (number Y (w .to)))
+          ∙ ap (_&&_ (eqb (w .from) i)) (sym h)) wire-meets)
 
       first-feeds : (i : ℕ) → feeds N Z (only z) i ≡ true → feeds N X (only x) i ≡ true
       unfolding feeds
-      first-feeds i = any-mono _ _ (N .wires) (all-map (N .wires) (λ w h e. feed-first (eqb (w .from) i) (only x (number X (w .to))) (only y (number Y (w .to))) (rw h at e)) wire-meets)
+      first-feeds i = any-mono _ _ (N .wires) (all-map (N .wires)
+          (λ w h e. feed-first (eqb (w .from) i) (only x (number X (w .to))) (only y (number Y (w .to))) (rw h at e)) wire-meets)
 
       same-leaves : (i : ℕ) → owns N i ≡ true → only x (number X i) ≡ true → leaves N Z i ≡ leaves N X i || leaves inner Y i
       same-leaves i t e =
@@ -157,24 +165,29 @@ module _ {R P D : Type 0} (N : Network R P D) (X Y Z : Sheet R) (formed : Formed
           (λ (w : Wire). eqb (number X (w .to)) x && (eqb (w .from) i && not (eqb (number Y (w .to)) (number Y i)))) (N .wires))
           ∙ ap₂ _||_ (sym (leaves-own N X formed i t)) (sym (inner-leaves i t e))
         where
-          at : (w : Wire) → number X i ≡ x → eqb (number Z (w .to)) (number Z i) ≡ eqb (number X (w .to)) (number X i) && eqb (number Y (w .to)) (number Y i)
+          at : (w : Wire) → number X i ≡ x → eqb (number Z (w .to)) (number Z i) ≡ eqb (number X (w .to)) (number X i) && eqb (number Y (w .to))
+              (number Y i)
               → eqb (w .from) i && not (eqb (number Z (w .to)) (number Z i))
-              ≡ (eqb (w .from) i && not (eqb (number X (w .to)) (number X i))) || (eqb (number X (w .to)) x && (eqb (w .from) i && not (eqb (number Y (w .to)) (number Y i))))
+              ≡ (eqb (w .from) i && not (eqb (number X (w .to)) (number X i))) ||
+              (eqb (number X (w .to)) x && (eqb (w .from) i && not (eqb (number Y (w .to)) (number Y i))))
           at w q h = rw (h, ← q) (leave-meet (eqb (w .from) i) (eqb (number X (w .to)) (number X i)) (eqb (number Y (w .to)) (number Y i)))
 
       -- an input, of the network or of the first fragment: it stays where it feeds the fragment
-      same-input : (i : ℕ) (r : R) → bind {A = Box R D} (cond (feeds N X (only x) i) (some (input (record { id = i; assumed = r }))) none) (piece inner Y (only y))
+      same-input : (i : ℕ) (r : R) → bind {A = Box R D} (cond (feeds N X (only x) i) (some (input (record { id = i; assumed = r }))) none)
+          (piece inner Y (only y))
           ≡ cond (feeds N Z (only z) i) (some (input (record { id = i; assumed = r }))) none
       unfolding bind
       same-input i r = go (feeds N X (only x) i) (feeds N Z (only z) i) (first-feeds i) (same-feeds i)
         where
           go : (s t : Bool) → (t ≡ true → s ≡ true) → feeds inner Y (only y) i ≡ t
-              → bind {A = Box R D} (cond s (some (input (record { id = i; assumed = r }))) none) (piece inner Y (only y)) ≡ cond t (some (input (record { id = i; assumed = r }))) none
+              → bind {A = Box R D} (cond s (some (input (record { id = i; assumed = r }))) none) (piece inner Y (only y)) ≡ cond t
+              (some (input (record { id = i; assumed = r }))) none
           go true t f q = rw q
           go false true f q = absurd (false≢true (f refl))
           go false false f q = refl
 
-      same-box : (v : Box R D) → (isOwn (some v) ≡ true → owns N (boxId v) ≡ true) → bind (piece N X (only x) v) (piece inner Y (only y)) ≡ piece N Z (only z) v
+      same-box : (v : Box R D) → (isOwn (some v) ≡ true → owns N (boxId v) ≡ true)
+          → bind (piece N X (only x) v) (piece inner Y (only y)) ≡ piece N Z (only z) v
       unfolding bind
       same-box (input a) f = same-input (a .id) (a .assumed)
       same-box (own b) f = go (only x (number X (b .id))) refl (only y (number Y (b .id))) refl
@@ -182,7 +195,8 @@ module _ {R P D : Type 0} (N : Network R P D) (X Y Z : Sheet R) (formed : Formed
           t : owns N (b .id) ≡ true
           t = f refl
 
-          assumed : (n : Option R) → bind (cond (feeds N X (only x) (b .id)) (Option·map (assuming b) n) none) (piece inner Y (only y)) ≡ cond (feeds N Z (only z) (b .id)) (Option·map (assuming b) n) none
+          assumed : (n : Option R) → bind (cond (feeds N X (only x) (b .id)) (Option·map (assuming b) n) none) (piece inner Y (only y)) ≡ cond
+              (feeds N Z (only z) (b .id)) (Option·map (assuming b) n) none
           assumed (some n) = same-input (b .id) n
           assumed none = nothing (feeds N X (only x) (b .id)) (feeds N Z (only z) (b .id))
             where
@@ -192,10 +206,12 @@ module _ {R P D : Type 0} (N : Network R P D) (X Y Z : Sheet R) (formed : Formed
               nothing false true = refl
               nothing false false = refl
 
-          go : (α : Bool) → only x (number X (b .id)) ≡ α → (β : Bool) → only y (number Y (b .id)) ≡ β → bind (piece N X (only x) (own b)) (piece inner Y (only y)) ≡ piece N Z (only z) (own b)
+          go : (α : Bool) → only x (number X (b .id)) ≡ α → (β : Bool) → only y (number Y (b .id)) ≡ β
+              → bind (piece N X (only x) (own b)) (piece inner Y (only y)) ≡ piece N Z (only z) (own b)
           go true p true q = rw (meets (b .id) t, p, q)
               (ap (λ (o : Option R). some (own (record { id = b .id; initial = b .initial; promise = o; demand = b .demand })))
-              (rw (third .first-notes (b .id), third .second-notes (b .id)) (twice-promised (b .promise) (note Z (b .id)) (leaves N X (b .id)) (leaves inner Y (b .id)))
+              (rw (third .first-notes (b .id), third .second-notes (b .id))
+              (twice-promised (b .promise) (note Z (b .id)) (leaves N X (b .id)) (leaves inner Y (b .id)))
               ∙ ap (λ (l : Bool). promised (b .promise) l (note Z (b .id))) (sym (same-leaves (b .id) t p))))
           go true p false q = rw (meets (b .id) t, p, q, third .second-notes (b .id), same-feeds (b .id)) refl
           go false p β q = rw (meets (b .id) t, p, third .first-notes (b .id)) (assumed (note Z (b .id)))
@@ -210,7 +226,10 @@ module _ {R P D : Type 0} (N : Network R P D) (X Y Z : Sheet R) (formed : Formed
         where
           same-boxes : filterMap (piece inner Y (only y)) (filterMap (piece N X (only x)) (N .boxes)) ≡ filterMap (piece N Z (only z)) (N .boxes)
           same-boxes = filterMap-filterMap (piece N X (only x)) (piece inner Y (only y)) (N .boxes)
-              ∙ filterMap-congr _ _ (N .boxes) (all-map (N .boxes) (λ v e. same-box v (λ o. ap isOwn e ∙ o)) (find-self boxId 0 (N .boxes) (formed .rise)))
+              ∙ filterMap-congr _ _ (N .boxes) (all-map (N .boxes) (λ v e. same-box v (λ o. ap isOwn e ∙ o))
+              (find-self boxId 0 (N .boxes) (formed .rise)))
 
-          same-wires : filter (λ (w : Wire). only y (number Y (w .to))) (filter (λ (w : Wire). only x (number X (w .to))) (N .wires)) ≡ filter (λ (w : Wire). only z (number Z (w .to))) (N .wires)
-          same-wires = filter-filter (λ (w : Wire). only x (number X (w .to))) (λ (w : Wire). only y (number Y (w .to))) (N .wires) ∙ sym (filter-congr _ _ (N .wires) wire-meets)
+          same-wires : filter (λ (w : Wire). only y (number Y (w .to))) (filter (λ (w : Wire). only x (number X (w .to))) (N .wires)) ≡ filter
+              (λ (w : Wire). only z (number Z (w .to))) (N .wires)
+          same-wires = filter-filter (λ (w : Wire). only x (number X (w .to))) (λ (w : Wire). only y (number Y (w .to))) (N .wires)
+              ∙ sym (filter-congr _ _ (N .wires) wire-meets)

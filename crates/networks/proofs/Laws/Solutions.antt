@@ -32,7 +32,8 @@ pub everywhere : {R P D : Type 0} (N : Network R P D) (S : Sheet R) (Q : ℕ →
     → ((k : ℕ) → All (Q k) (ownBoxes (fragment N S k))) → All (λ (b : Own R D). Q (number S (b .id)) (promising N S b)) (ownBoxes N)
 everywhere {R} {P} {D} N S Q h =
     all-map (ownBoxes N) (λ b f. f (number S (b .id)) (eq-eqb (number S (b .id)) (number S (b .id)) refl))
-    (all-each (λ (k : ℕ) (b : Own R D). eqb (number S (b .id)) k ≡ true → Q k (promising N S b)) (ownBoxes N) (λ k. kept-own N S (only k) (Q k) (h k)))
+    (all-each (λ (k : ℕ) (b : Own R D). eqb (number S (b .id)) k ≡ true → Q k (promising N S b)) (ownBoxes N)
+    (λ k. kept-own N S (only k) (Q k) (h k)))
 
 -- and back
 pub anywhere : {R P D : Type 0} (N : Network R P D) (S : Sheet R) (Q : ℕ → Own R D → Type 0)
@@ -52,7 +53,8 @@ promised-note x none (some n) true l s f g = ap some (g n refl)
 promised-note x none n false l s f g = absurd (false≢true l)
 promised-note x (some q) n left l s f g = ap some (g q refl) ∙ sym (f q refl)
 
-own-promised : {R : Type 0} (x : R) (p n : Option R) (left : Bool) → (left ≡ true → some x ≡ n) → ((q : R) → p ≡ some q → x ≡ q) → (q : R) → promised p left n ≡ some q → x ≡ q
+own-promised : {R : Type 0} (x : R) (p n : Option R) (left : Bool) → (left ≡ true → some x ≡ n) → ((q : R) → p ≡ some q → x ≡ q) → (q : R)
+    → promised p left n ≡ some q → x ≡ q
 own-promised x none n true f g q e = some-inj (f refl ∙ e)
 own-promised x none n false f g q e = absurd (none-some e)
 own-promised x (some y) n left f g q e = g q e
@@ -72,7 +74,8 @@ module _ (𝓐 : Algebra) where
     pub solution-ext : Solution 𝓐 N ℒ → Solution 𝓐 N ℳ
     solution-ext h = record {
       equation-6 = all-map (ownBoxes N) (λ b f. sym (f .0) ∙ f .1 ∙ due-ext b) (all-both _ _ (ownBoxes N) at-own (h .equation-6));
-      equation-7 = all-map (inputs N) (λ a f. sym (same (a .id) (ap isBox (f .0))) ∙ f .1) (all-both _ _ (inputs N) (input-there N (formed .rise)) (h .equation-7));
+      equation-7 = all-map (inputs N) (λ a f. sym (same (a .id) (ap isBox (f .0))) ∙ f .1)
+          (all-both _ _ (inputs N) (input-there N (formed .rise)) (h .equation-7));
       equation-8 = all-map (ownBoxes N) (λ b f q e. sym (f .0) ∙ f .1 q e) (all-both _ _ (ownBoxes N) at-own (h .equation-8));
     }
 
@@ -85,7 +88,8 @@ module _ (𝓐 : Algebra) where
   module _ (N : Network Route Policy Demand) (S : Sheet Route) (ℒ : ℕ → Route) where
     -- from the fragments to the network
     module _ (used : All (λ (a : Input Route). sends N (a .id) ≡ true) (inputs N)) (solved : (k : ℕ) → Solution 𝓐 (fragment N S k) ℒ) where
-      promises : All (λ (b : Own Route Demand). (q : Route) → promised (b .promise) (leaves N S (b .id)) (note S (b .id)) ≡ some q → ℒ (b .id) ≡ q) (ownBoxes N)
+      promises : All (λ (b : Own Route Demand). (q : Route) → promised (b .promise) (leaves N S (b .id)) (note S (b .id)) ≡ some q
+          → ℒ (b .id) ≡ q) (ownBoxes N)
       promises = everywhere N S (λ (k : ℕ) (b : Own Route Demand). (q : Route) → b .promise ≡ some q → ℒ (b .id) ≡ q) (λ k. solved k .equation-8)
 
       -- an input feeds the fragment of the box that it has a wire to
@@ -95,10 +99,12 @@ module _ (𝓐 : Algebra) where
           (all-each (λ (k : ℕ) (a : Input Route). feeds N S (only k) (a .id) ≡ true → ℒ (a .id) ≡ a .assumed) (inputs N)
           (λ k. kept-inputs N S (only k) (λ (a : Input Route). ℒ (a .id) ≡ a .assumed) (solved k .equation-7))))
         where
-          at : (a : Input Route) → (sends N (a .id) ≡ true) × ((k : ℕ) → feeds N S (only k) (a .id) ≡ true → ℒ (a .id) ≡ a .assumed) → ℒ (a .id) ≡ a .assumed
+          at : (a : Input Route) → (sends N (a .id) ≡ true) × ((k : ℕ) → feeds N S (only k) (a .id) ≡ true → ℒ (a .id) ≡ a .assumed)
+              → ℒ (a .id) ≡ a .assumed
           at a f =
               let w = any-found (λ (x : Wire). eqb (x .from) (a .id)) (N .wires) (any-here (N .wires)) (f .0) in
-              f .1 (number S (w .0 .to)) (w .1 (λ (x : Wire). eqb (x .from) (a .id) && eqb (number S (x .to)) (number S (w .0 .to))) (and-i _ _ (w .2) (eq-eqb (number S (w .0 .to)) _ refl)))
+              f .1 (number S (w .0 .to)) (w .1 (λ (x : Wire). eqb (x .from) (a .id) && eqb (number S (x .to)) (number S (w .0 .to)))
+              (and-i _ _ (w .2) (eq-eqb (number S (w .0 .to)) _ refl)))
 
       pub whole-solved : Solution 𝓐 N ℒ
       whole-solved = record {
@@ -109,7 +115,8 @@ module _ (𝓐 : Algebra) where
       }
 
       pub notes-kept : Fits N S → Agrees N S (λ (i : ℕ). some (ℒ i))
-      notes-kept fits = all-map (ownBoxes N) (λ b f l. promised-note (ℒ (b .id)) (b .promise) (note S (b .id)) (leaves N S (b .id)) l (f .0) (f .1 .0 l) (f .1 .1))
+      notes-kept fits = all-map (ownBoxes N) (λ b f l. promised-note (ℒ (b .id)) (b .promise) (note S (b .id)) (leaves N S (b .id)) l (f .0)
+          (f .1 .0 l) (f .1 .1))
           (all-both _ _ (ownBoxes N) (fits .entered) (all-both _ _ (ownBoxes N) (fits .notes) promises))
 
     -- and back
@@ -122,5 +129,6 @@ module _ (𝓐 : Algebra) where
           (all-map (ownBoxes N) (λ b f s t n e. some-inj (f .1 (feeds-leaves N S formed (only k) (b .id) (ap isOwn (f .0)) s t) ∙ e))
           (all-both _ _ (ownBoxes N) (own-there N (formed .rise)) agrees));
       equation-8 = anywhere N S (λ (m : ℕ) (b : Own Route Demand). (q : Route) → b .promise ≡ some q → ℒ (b .id) ≡ q)
-          (all-map (ownBoxes N) (λ b f. own-promised (ℒ (b .id)) (b .promise) (note S (b .id)) (leaves N S (b .id)) (f .0) (f .1)) (all-both _ _ (ownBoxes N) agrees (h .equation-8))) k;
+          (all-map (ownBoxes N) (λ b f. own-promised (ℒ (b .id)) (b .promise) (note S (b .id)) (leaves N S (b .id)) (f .0) (f .1))
+          (all-both _ _ (ownBoxes N) agrees (h .equation-8))) k;
     }

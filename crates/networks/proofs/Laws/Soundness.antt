@@ -28,7 +28,8 @@ module _ {R P D : Type 0} (N : Network R P D) (S : Sheet R) where
   }
 
   some-kept : (k : ℕ) → any (numbered N S k) (ownBoxes N) ≡ true → 0 < length (ownBoxes (fragment N S k))
-  some-kept k t = rw (own-boxes-fragment N S (only k), length-map (filter (numbered N S k) (ownBoxes N)) (promising N S)) (filter-some (numbered N S k) (ownBoxes N) t)
+  some-kept k t = rw (own-boxes-fragment N S (only k), length-map (filter (numbered N S k) (ownBoxes N)) (promising N S))
+      (filter-some (numbered N S k) (ownBoxes N) t)
 
   -- an input is kept because it feeds the fragment
   inputs-send : (κ : ℕ → Bool) → All (λ (a : Input R). sends (fragmentOf N S κ) (a .id) ≡ true) (inputs (fragmentOf N S κ))

@@ -18,7 +18,8 @@ use Rattle.networks.specs.Cut.{only, promised, leaves, feeds, piece, fra
 use Rattle.networks.proofs.Laws.Boxes.{own-there, own-fact}
 use Rattle.networks.proofs.Laws.Formed.{sound-formed, leaves-own}
 
-module _ {R P D : Type 0} (B : Bounds) (N : Network R P D) (S : Sheet R) (k : ℕ) (sound : Sound B N) (one : All (λ (b : Own R D). number S (b .id) ≡ k) (ownBoxes N)) where
+module _ {R P D : Type 0} (B : Bounds) (N : Network R P D) (S : Sheet R) (k : ℕ) (sound : Sound B N)
+    (one : All (λ (b : Own R D). number S (b .id) ≡ k) (ownBoxes N)) where
   numbered-k : (i : ℕ) → owns N i ≡ true → number S i ≡ k
   numbered-k i = own-fact N (λ (j : ℕ). number S j ≡ k) i one
 
@@ -27,11 +28,13 @@ module _ {R P D : Type 0} (B : Bounds) (N : Network R P D) (S : Sheet R) (k : �
     where
       at : (i : ℕ) → owns N i ≡ true → leaves N S i ≡ false
       at i t = leaves-own N S (sound-formed B N sound) i t ∙ false-any _ (N .wires)
-          (all-map (N .wires) (λ w h. ap (λ (s : Bool). eqb (w .from) i && not s) (eq-eqb _ _ (numbered-k (w .to) (h .to-own) ∙ sym (numbered-k i t))) ∙ and-false (eqb (w .from) i)) (sound .wires-joined))
+          (all-map (N .wires) (λ w h. ap (λ (s : Bool). eqb (w .from) i && not s)
+          (eq-eqb _ _ (numbered-k (w .to) (h .to-own) ∙ sym (numbered-k i t))) ∙ and-false (eqb (w .from) i)) (sound .wires-joined))
 
   all-feed : All (λ (a : Input R). feeds N S (only k) (a .id) ≡ true) (inputs N)
   unfolding feeds
-  all-feed = all-map (inputs N) (λ a. any-mono _ _ (N .wires) (all-map (N .wires) (λ w h e. and-i _ _ e (eq-eqb _ _ (numbered-k (w .to) (h .to-own)))) (sound .wires-joined))) (sound .inputs-used)
+  all-feed = all-map (inputs N) (λ a. any-mono _ _ (N .wires)
+      (all-map (N .wires) (λ w h e. and-i _ _ e (eq-eqb _ _ (numbered-k (w .to) (h .to-own)))) (sound .wires-joined))) (sound .inputs-used)
 
   unpromised : (p n : Option R) → promised p false n ≡ p
   unpromised none n = refl
@@ -43,7 +46,8 @@ module _ {R P D : Type 0} (B : Bounds) (N : Network R P D) (S : Sheet R) (k : �
       → piece N S (only k) v ≡ some v
   box-kept (own b) f = let g = f .0 b refl in
       rw (eq-eqb (number S (b .id)) k (g .0), g .1)
-      (ap (λ (p : Option R). some (own (record { id = b .id; initial = b .initial; promise = p; demand = b .demand }))) (unpromised (b .promise) (note S (b .id))))
+      (ap (λ (p : Option R). some (own (record { id = b .id; initial = b .initial; promise = p; demand = b .demand })))
+      (unpromised (b .promise) (note S (b .id))))
   box-kept (input a) f = rw (f .1 a refl) refl
 
   pub same-network : fragment N S k ≡ N

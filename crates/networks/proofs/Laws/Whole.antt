@@ -42,7 +42,8 @@ module _ (𝓐 : Algebra) (B : Bounds) (N : NetworkOver 𝓐) (S : Sheet (𝓐 .
 
   -- from the fragments to the whole
   module _ (parts : (k : ℕ) → Passes 𝓐 (fragment N S k) L) where
-    abbrev solved : (k : ℕ) → Entered (fragment N S k) (listed L) × Solution 𝓐 (fragment N S k) (mapping 𝓐 (fragment N S k) L) × Demands 𝓐 (fragment N S k) (mapping 𝓐 (fragment N S k) L)
+    abbrev solved : (k : ℕ) → Entered (fragment N S k) (listed L) × Solution 𝓐 (fragment N S k) (mapping 𝓐 (fragment N S k) L)
+        × Demands 𝓐 (fragment N S k) (mapping 𝓐 (fragment N S k) L)
     solved k = (passes-solved 𝓐 (fragment N S k) L (formed-in k .rise)) .0 (parts k)
 
     pub whole-agrees : Agrees N S (listed L)
@@ -50,29 +51,35 @@ module _ (𝓐 : Algebra) (B : Bounds) (N : NetworkOver 𝓐) (S : Sheet (𝓐 .
         (λ b f t. f .0 ∙ promised-note (held 𝓐 L (b .id)) (b .promise) (note S (b .id)) (leaves N S (b .id)) t (f .1 .0) (f .1 .1 .0 t) (f .1 .1 .1))
         (all-both _ _ (ownBoxes N) held-listed (all-both _ _ (ownBoxes N) (fits .entered) (all-both _ _ (ownBoxes N) (fits .notes) promises)))
       where
-        promises : All (λ (b : Own Route Demand). (q : Route) → promised (b .promise) (leaves N S (b .id)) (note S (b .id)) ≡ some q → held 𝓐 L (b .id) ≡ q) (ownBoxes N)
+        promises : All (λ (b : Own Route Demand). (q : Route) → promised (b .promise) (leaves N S (b .id)) (note S (b .id)) ≡ some q
+            → held 𝓐 L (b .id) ≡ q) (ownBoxes N)
         promises = everywhere N S (λ (k : ℕ) (b : Own Route Demand). (q : Route) → b .promise ≡ some q → held 𝓐 L (b .id) ≡ q)
-            (λ k. all-map (ownBoxes (fragment N S k)) (λ b f q e. sym (f .0) ∙ f .1 q e) (all-both _ _ (ownBoxes (fragment N S k)) (own-held 𝓐 (fragment N S k) L (formed-in k .rise)) (solved k .1 .equation-8)))
+            (λ k. all-map (ownBoxes (fragment N S k)) (λ b f q e. sym (f .0) ∙ f .1 q e)
+            (all-both _ _ (ownBoxes (fragment N S k)) (own-held 𝓐 (fragment N S k) L (formed-in k .rise)) (solved k .1 .equation-8)))
 
     pub whole-passes : Passes 𝓐 N L
     whole-passes = (passes-solved 𝓐 N L (formed .rise)) .1 (
       entered,
       whole-solved 𝓐 N S (mapping 𝓐 N L) (sound .inputs-used)
-          (λ k. solution-ext 𝓐 (fragment N S k) (formed-in k) (mapping 𝓐 (fragment N S k) L) (mapping 𝓐 N L) (kept-mapping 𝓐 N S L k formed whole-agrees) (solved k .1)),
+          (λ k. solution-ext 𝓐 (fragment N S k) (formed-in k) (mapping 𝓐 (fragment N S k) L) (mapping 𝓐 N L)
+          (kept-mapping 𝓐 N S L k formed whole-agrees) (solved k .1)),
       all-map (ownBoxes N) (λ b f. rw (f .0) (f .1)) (all-both _ _ (ownBoxes N) (own-held 𝓐 N L (formed .rise)) demands),
     )
       where
         demands : All (λ (b : Own Route Demand). meets (b .demand) (held 𝓐 L (b .id)) ≡ true) (ownBoxes N)
         demands = everywhere N S (λ (k : ℕ) (b : Own Route Demand). meets (b .demand) (held 𝓐 L (b .id)) ≡ true)
-            (λ k. all-map (ownBoxes (fragment N S k)) (λ b f. rw (f .0) at (f .1)) (all-both _ _ (ownBoxes (fragment N S k)) (own-held 𝓐 (fragment N S k) L (formed-in k .rise)) (solved k .2)))
+            (λ k. all-map (ownBoxes (fragment N S k)) (λ b f. rw (f .0) at (f .1))
+            (all-both _ _ (ownBoxes (fragment N S k)) (own-held 𝓐 (fragment N S k) L (formed-in k .rise)) (solved k .2)))
 
   -- and back
   pub part-passes : Passes 𝓐 N L → Agrees N S (listed L) → (k : ℕ) → Passes 𝓐 (fragment N S k) L
   part-passes passes agrees k = (passes-solved 𝓐 (fragment N S k) L (formed-in k .rise)) .1 (
     anywhere N S (λ (m : ℕ) (b : Own Route Demand). isSome (listed L (b .id)) ≡ true) entered k,
-    solution-ext 𝓐 (fragment N S k) (formed-in k) (mapping 𝓐 N L) (mapping 𝓐 (fragment N S k) L) (λ i t. sym (kept-mapping 𝓐 N S L k formed agrees i t))
+    solution-ext 𝓐 (fragment N S k) (formed-in k) (mapping 𝓐 N L) (mapping 𝓐 (fragment N S k) L)
+        (λ i t. sym (kept-mapping 𝓐 N S L k formed agrees i t))
         (fragment-solved 𝓐 N S (mapping 𝓐 N L) formed (solved .1) mapped-agrees k),
-    all-map (ownBoxes (fragment N S k)) (λ b f. rw (f .0) (f .1)) (all-both _ _ (ownBoxes (fragment N S k)) (own-held 𝓐 (fragment N S k) L (formed-in k .rise)) demands),
+    all-map (ownBoxes (fragment N S k)) (λ b f. rw (f .0) (f .1))
+        (all-both _ _ (ownBoxes (fragment N S k)) (own-held 𝓐 (fragment N S k) L (formed-in k .rise)) demands),
   )
     where
       solved : Entered N (listed L) × Solution 𝓐 N (mapping 𝓐 N L) × Demands 𝓐 N (mapping 𝓐 N L)
