@@ -1,6 +1,6 @@
 -- Laws about the definitions of specs/, in the order in which they rest on each other.
 --     Boxes, Wires, Entries       boxes by kind and id; the order of wires; what a sheet or a list says of a box
---     Answers                     answers and refusals taken apart
+--     Named, Answers              the box that an answer names; answers and refusals taken apart
 --     Order                       the order that the laws of choice make
 --     Pieces, Formed, Soundness   what a fragment has, what of it every cut keeps, and that it is sound
 --     Cutting, Uncut, Recut       the cutter's answers; a network that nothing cuts; one cut upon another
@@ -11,6 +11,7 @@
 pub mod Boxes
 pub mod Wires
 pub mod Entries
+pub mod Named
 pub mod Answers
 pub mod Order
 pub mod Pieces

@@ -14,8 +14,9 @@ use Rattle.networks.specs.Sheets.{RouteList, listed}
 use Rattle.networks.specs.Answer.{given, Entered}
 use Rattle.networks.specs.Solution.{mapping, Solution, Demands}
 use Rattle.networks.specs.Judge.{pass, found, fault, judge, Passes, upTo}
-use Rattle.networks.proofs.Laws.Boxes.{own-there, own-rise}
-use Rattle.networks.proofs.Laws.Judging.{pass-verdict, First, verdict-found, judge-given, passes-solved}
+use Rattle.networks.proofs.Laws.Boxes.{own-rise}
+use Rattle.networks.proofs.Laws.Named.{named-box}
+use Rattle.networks.proofs.Laws.Judging.{pass-verdict, FirstFault, verdict-found, judge-given, passes-solved}
 
 module _ (𝓐 : Algebra) (B : Bounds) (N : NetworkOver 𝓐) (L : RouteList (𝓐 .Route)) (sound : Sound B N) where
   open Algebra 𝓐 using (Route, Demand)
@@ -28,21 +29,19 @@ module _ (𝓐 : Algebra) (B : Bounds) (N : NetworkOver 𝓐) (L : RouteList (�
   pass-count count e = (pass-verdict 𝓐 N L 0 count (ownBoxes N) ((judge-given 𝓐 N L (pass count) e) .1)) .1 ∙ zero-add (length (ownBoxes N))
 
   module _ (number node count : ℕ) (route : Route) (e : judge 𝓐 N L ≡ given (found number node route count)) where
-    first : First 𝓐 N L number node route 0 count 0 (ownBoxes N)
-    first = verdict-found 𝓐 N L number node route 0 count 0 (ownBoxes N) (own-rise N (sound .boxes-rise))
-        ((judge-given 𝓐 N L (found number node route count) e) .1)
+    first : FirstFault 𝓐 N L number route node 0 (ownBoxes N) × (count ≡ upTo N node)
+    first =
+        let g = judge-given 𝓐 N L (found number node route count) e in
+        let f = verdict-found 𝓐 N L number node route 0 count 0 (ownBoxes N) (own-rise N (sound .boxes-rise)) (g .1) in
+        (f .0, f .1 ∙ zero-add (upTo N node))
 
     -- a finding is the first one at an own box, and no own box with a lower id has any
     pub finding : (b : Own Route Demand) × (box N node ≡ some (own b)) × (fault 𝓐 N L b ≡ some (record { number = number; route = route }))
         × All (λ (d : Own Route Demand). d .id < node → fault 𝓐 N L d ≡ none) (ownBoxes N)
-    finding = (
-      first .named,
-      subst (λ (i : ℕ). box N i ≡ some (own (first .named))) (first .id-is)
-          (first .there (λ (b : Own Route Demand). box N (b .id) ≡ some (own b)) (own-there N (sound .boxes-rise))),
-      first .finds,
-      first .before,
-    )
+    finding =
+        let f = first .0 in
+        (f .named, named-box N (sound .boxes-rise) node 0 f, f .hit, f .below)
 
     -- its count is of the own boxes with an id up to the named one
     pub found-count : count ≡ upTo N node
-    found-count = first .counted ∙ zero-add (upTo N node)
+    found-count = first .1

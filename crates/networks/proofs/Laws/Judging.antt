@@ -26,6 +26,7 @@ use Rattle.networks.specs.Answer.{given, Entered, unentered}
 use Rattle.networks.specs.Solution.{due, mapping, Solution, Demands}
 use Rattle.networks.specs.Judge.{Finding, Verdict, pass, found, held, breaks, fault, stop, verdictFrom, judge, Passes}
 use Rattle.networks.proofs.Laws.Boxes.{own-there, input-there}
+use Rattle.networks.proofs.Laws.Named.{Named, named-here, named-later}
 use Rattle.networks.proofs.Laws.Answers.{entered-none, none-entered, given-same, refuse-given}
 
 module _ (𝓐 : Algebra) where
@@ -90,59 +91,31 @@ module _ (𝓐 : Algebra) where
     verdict-pass c [] h = ap pass (sym (add-zero c))
     verdict-pass c (b ∷ bs) h = rw (h .0) (verdict-pass (suc c) bs (h .1) ∙ ap pass (omega arith))
 
-    -- a finding: the box, what is found there, that nothing is found before, and the count
-    pub record First (n i : ℕ) (r : Route) (c m lo : ℕ) (bs : List (Own Route Demand)) : Type 1 where
-      pub named : Own Route Demand
-      pub there : (Q : Own Route Demand → Type 0) → All Q bs → Q named
-      pub id-is : named .id ≡ i
-      pub finds : fault 𝓐 N L named ≡ some (record { number = n; route = r })
-      pub before : All (λ (d : Own Route Demand). d .id < i → fault 𝓐 N L d ≡ none) bs
-      pub above : lo ≤ i
-      pub counted : m ≡ c + length (filter (λ (d : Own Route Demand). leb (d .id) i) bs)
+    -- a finding: the first box with a fault, and what it is
+    abbrev pub FirstFault : ℕ → Route → ℕ → ℕ → List (Own Route Demand) → Type 1
+    FirstFault n r = Named (λ (b : Own Route Demand). fault 𝓐 N L b ≡ some (record { number = n; route = r })) (λ (b : Own Route Demand). fault 𝓐 N L b ≡ none)
 
     pub verdict-found : (n i : ℕ) (r : Route) (c m lo : ℕ) (bs : List (Own Route Demand)) → Rises (λ (b : Own Route Demand). b .id) lo bs
-        → verdictFrom 𝓐 N L c bs ≡ found n i r m → First n i r c m lo bs
+        → verdictFrom 𝓐 N L c bs ≡ found n i r m → FirstFault n r i lo bs × (m ≡ c + length (filter (λ (d : Own Route Demand). leb (d .id) i) bs))
     unfolding verdictFrom
     verdict-found n i r c m lo [] h e = absurd (let y : _≡_ {A = ℕ} 0 1 = cc in omega arith)
     verdict-found n i r c m lo (b ∷ bs) h e = go (fault 𝓐 N L b) refl e (verdict-found n i r (suc c) m (suc (b .id)) bs (h .1))
       where
-        later : (lo : ℕ) (ds : List (Own Route Demand)) → b .id < lo → Rises (λ (d : Own Route Demand). d .id) lo ds
-            → All (λ (d : Own Route Demand). d .id < b .id → fault 𝓐 N L d ≡ none) ds
-        later lo [] l k = tt
-        later lo (d ∷ ds) l k = (λ z. absurd (omega arith), later (suc (d .id)) ds (omega arith) (k .1))
-
         go : (o : Option (Finding Route)) → fault 𝓐 N L b ≡ o → stop 𝓐 o (b .id) (suc c) (verdictFrom 𝓐 N L (suc c) bs) ≡ found n i r m
-            → (verdictFrom 𝓐 N L (suc c) bs ≡ found n i r m → First n i r (suc c) m (suc (b .id)) bs) → First n i r c m lo (b ∷ bs)
+            → (verdictFrom 𝓐 N L (suc c) bs ≡ found n i r m → FirstFault n r i (suc (b .id)) bs × (m ≡ suc c + length (filter (λ (d : Own Route Demand). leb (d .id) i) bs)))
+            → FirstFault n r i lo (b ∷ bs) × (m ≡ c + length (filter (λ (d : Own Route Demand). leb (d .id) i) (b ∷ bs)))
         go none q z k =
             let f = k z in
-            let l : suc (b .id) ≤ i = f .above in
-            let s : m ≡ suc c + length (filter (λ (d : Own Route Demand). leb (d .id) i) bs) = f .counted in
-            record {
-              named = f .named;
-              there = λ Q a. f .there Q (a .1);
-              id-is = f .id-is;
-              finds = f .finds;
-              before = (λ y. q, f .before);
-              above = omega arith;
-              counted = rw (le-leb (b .id) i (omega arith)) (omega arith);
-            }
+            let y : m ≡ suc c + length (filter (λ (d : Own Route Demand). leb (d .id) i) bs) = f .1 in
+            let l : suc (b .id) ≤ i = f .0 .above in
+            (named-later _ _ i lo b bs h q (f .0), rw (le-leb (b .id) i (omega arith)) (omega arith))
         go (some f) q z k =
             let j : b .id ≡ i = cc in
             let y : m ≡ suc c = cc in
-            record {
-              named = b;
-              there = λ Q a. a .0;
-              id-is = j;
-              finds = q ∙ ap some (λ t. record { number = number-is t; route = route-is t });
-              before = (
-                λ l. absurd (omega arith),
-                subst (λ (s : ℕ). All (λ (d : Own Route Demand). d .id < s → fault 𝓐 N L d ≡ none) bs) j
-                    (later (suc (b .id)) bs (omega arith) (h .1)),
-              );
-              above = omega arith;
-              counted = rw (le-leb (b .id) i (omega arith), filter-low (λ (d : Own Route Demand). d .id) i (suc (b .id)) bs (omega arith) (h .1))
-                  (omega arith);
-            }
+            (
+              named-here _ _ i lo b bs h j (q ∙ ap some (λ t. record { number = number-is t; route = route-is t })),
+              rw (le-leb (b .id) i (omega arith), filter-low (λ (d : Own Route Demand). d .id) i (suc (b .id)) bs (omega arith) (h .1)) (omega arith),
+            )
           where
             number-is : f .number ≡ n
             number-is = cc
