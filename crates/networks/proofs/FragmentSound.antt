@@ -1,7 +1,6 @@
 -- What the cutter gives for a sound network is sound again, with no more boxes, wires and policies. So it can be judged, and cut again.
 use mathlib.Core.Path.{_≡_}
 use Prim.Native.Nat.{ℕ}
-use lib.Dec.{eqb}
 use Rattle.networks.specs.Algebra.{Algebra}
 use Rattle.networks.specs.Network.{NetworkOver}
 use Rattle.networks.specs.Sound.{Bounds, Sound, NoMore}

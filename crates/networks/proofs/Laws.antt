@@ -3,7 +3,8 @@
 --     Named, Answers              the box that an answer names; answers and refusals taken apart
 --     Order                       the order that the laws of choice make
 --     Pieces, Formed, Soundness   what a fragment has, what of it every cut keeps, and that it is sound
---     Cutting, Uncut, Recut       the cutter's answers; a network that nothing cuts; one cut upon another
+--     Cutting, Refused            the cutter's answers; what a refusal tells
+--     Uncut, Recut                a network that nothing cuts; one cut upon another
 --     Solutions                   solutions in a network and in its fragments
 --     Judging, Agreeing           the judge's answers; two lists that agree
 --     Mapping, Whole              what a list maps a fragment's boxes to; fragments and whole
@@ -18,6 +19,7 @@ pub mod Pieces
 pub mod Formed
 pub mod Soundness
 pub mod Cutting
+pub mod Refused
 pub mod Uncut
 pub mod Recut
 pub mod Solutions

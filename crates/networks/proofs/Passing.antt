@@ -1,6 +1,6 @@
 -- Demand 2, of the judge: a list passes exactly where every own box has an entry, equations 6 to 8 hold of what it maps each box to,
 -- and every demand is met. Otherwise the first fault by rising id is named, and the count is of the own boxes up to it.
-use mathlib.Core.Path.{_≡_, _∙_, subst}
+use mathlib.Core.Path.{_≡_, _∙_}
 use mathlib.Core.Logic.{_↔_}
 use mathlib.Core.Option.{none, some}
 use Prim.Native.Nat.{ℕ, _<_}

@@ -1,14 +1,14 @@
 -- The numbers given back: an answer, or a refusal by number and place.
 --     Answer, refuse, andThen     answers, the rows of a table of refusals, one call upon another's answer
---     lowest                       the lowest id of an own box that meets a test
---     Entered, unentered           every own box has an entry; refusal 17, which judging and cutting share
+--     lowest, LowestOwn           the lowest own box that meets a test, or of which something holds
+--     Entered, unentered          every own box has an entry; refusal 17, which judging and cutting share
 use mathlib.Core.Path.{_≡_}
 use mathlib.Core.Bool.{Bool, true, false, cond, not}
 use mathlib.Core.Option.{Option, none, some}
 use mathlib.Core.List.{List, [], _∷_}
-use Prim.Native.Nat.{ℕ}
+use Prim.Native.Nat.{ℕ, _<_}
 use Rattle.lists.specs.All.{All}
-use Rattle.networks.specs.Network.{Own, Network, ownBoxes}
+use Rattle.networks.specs.Network.{Own, own, Network, ownBoxes, box}
 
 pub data Answer (A : Type 0) : Type 0 where
   given : A → Answer A
@@ -28,6 +28,12 @@ andThen (refused number place) f = refused number place
 abbrev pub lowest : {R D : Type 0} → (Own R D → Bool) → List (Own R D) → Option ℕ
 lowest test [] = none
 lowest test (b ∷ bs) = cond (test b) (some (b .id)) (lowest test bs)
+
+-- Box i is an own box of which Q holds, and Q holds of no own box below it.
+abbrev pub LowestOwn : {R P D : Type 0} → Network R P D → (Own R D → Type 0) → ℕ → Type 0
+LowestOwn {R} {P} {D} N Q i =
+    ((b : Own R D) × (box N i ≡ some (own b)) × Q b)
+    × All (λ (d : Own R D). d .id < i → Q d → ⊥) (ownBoxes N)
 
 abbrev pub isSome : {A : Type 0} → Option A → Bool
 isSome none = false

@@ -88,8 +88,13 @@ module _ (𝓐 : Algebra) where
   offNote (some q) none = true
   offNote (some q) (some n) = not (same q n)
 
+  -- a cut wire leaves a box whose promise is not its note
   abbrev pub clashes : Network Route Policy Demand → Sheet Route → Own Route Demand → Bool
   clashes N S b = leaves N S (b .id) && offNote (b .promise) (note S (b .id))
+
+  -- the same as a fact
+  abbrev pub Clashes : Network Route Policy Demand → Sheet Route → Own Route Demand → Type 0
+  Clashes N S b = (leaves N S (b .id) ≡ true) × ((q : Route) × (b .promise ≡ some q) × (note S (b .id) ≡ some q → ⊥))
 
   unfoldable pub cut : Network Route Policy Demand → Sheet Route → ℕ → Answer (Network Route Policy Demand)
   cut N S k =

@@ -1,7 +1,7 @@
 -- Judging (document 01): the first finding by rising id.
 --     Finding, fault      what is wrong at one own box: 31 before 32 before 33
 --     Verdict, judge      the answer, with the number of own boxes judged
---     upTo, judged       the judged count: of a named box, and of every answer
+--     upTo, judged        the judged count: of a named box, and of every answer
 use mathlib.Core.Path.{_≡_}
 use mathlib.Core.Bool.{Bool, false, not}
 use mathlib.Core.Option.{Option, none, some, Option·getD}

@@ -2,7 +2,8 @@
 -- it point by point, but for the edges, which document 01 mends.
 --     init, ass, guar, V-in, V-out, E     the parts of an open network
 --     W .. guar-k                         the parts of fragment k, as the paper has them
---     AgreesWithPaper                     what is shown
+--     AgreesWithPaper                     what is shown of the fragment
+--     MadeUp                              a mapping that is made up of one mapping for each fragment (theorem IV.1)
 use mathlib.Core.Path.{_≡_}
 use mathlib.Core.Bool.{Bool, true, cond, not, _&&_, _||_}
 use mathlib.Core.Option.{Option, none, some}
@@ -10,7 +11,7 @@ use Prim.Native.Nat.{ℕ}
 use lib.Dec.{eqb}
 use Rattle.lists.specs.All.{any}
 use Rattle.networks.specs.Algebra.{Algebra}
-use Rattle.networks.specs.Network.{Box, own, input, Wire, Network, box, owns}
+use Rattle.networks.specs.Network.{Box, own, input, Wire, Network, NetworkOver, box, hasBox, owns}
 use Rattle.networks.specs.Sheets.{Sheet, number, note}
 use Rattle.networks.specs.Answer.{isSome}
 use Rattle.networks.specs.Solution.{trans}
@@ -86,7 +87,7 @@ module _ {R P D : Type 0} (N : Network R P D) (S : Sheet R) (k : ℕ) where
   abbrev pub guar-k : ℕ → Option R
   guar-k u = cond (V-out N u) (guar N u) (note S u)
 
-pub record AgreesWithPaper (𝓐 : Algebra) (N : Network (𝓐 .Route) (𝓐 .Policy) (𝓐 .Demand)) (S : Sheet (𝓐 .Route)) (k : ℕ) : Type 0 where
+pub record AgreesWithPaper (𝓐 : Algebra) (N : NetworkOver 𝓐) (S : Sheet (𝓐 .Route)) (k : ℕ) : Type 0 where
   pub owned : (u : ℕ) → owns (fragment N S k) u ≡ W N S k u
   pub inputs : (u : ℕ) → V-in (fragment N S k) u ≡ V-in-k N S k u
   pub outputs : (u : ℕ) → V-out (fragment N S k) u ≡ V-out-k N S k u
@@ -97,3 +98,8 @@ pub record AgreesWithPaper (𝓐 : Algebra) (N : Network (𝓐 .Route) (𝓐 .Po
   pub assumptions : (u : ℕ) → V-in-k N S k u ≡ true → ass (fragment N S k) u ≡ ass-k N S k u
   pub guarantees : (u : ℕ) → V-out-k N S k u ≡ true → guar (fragment N S k) u ≡ guar-k N S k u
   pub transfers : (w : Wire) (r : 𝓐 .Route) → trans 𝓐 (fragment N S k) w r ≡ trans 𝓐 N w r
+
+-- At the boxes of a fragment the mapping has the routes of that fragment's own mapping. The paper asks for the assumed routes at the
+-- network's inputs too; that follows, since every input feeds a fragment.
+abbrev pub MadeUp : {R P D : Type 0} → Network R P D → Sheet R → (ℕ → R) → (ℕ → ℕ → R) → Type 0
+MadeUp N S ℒ parts = (k i : ℕ) → hasBox (fragment N S k) i ≡ true → ℒ i ≡ parts k i

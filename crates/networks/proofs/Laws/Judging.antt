@@ -9,7 +9,7 @@ use mathlib.Core.Bool.{true, false, not}
 use mathlib.Core.Option.{Option, none, some}
 use mathlib.Core.Logic.{_↔_}
 use mathlib.Core.List.{List, [], _∷_}
-use Prim.Native.Nat.{ℕ, suc, _+_, _≤_, _<_}
+use Prim.Native.Nat.{ℕ, suc, _+_, _≤_}
 use native.Mathlib.Nat.{add-zero, zero-add}
 use native.Mathlib.Omega.{arith}
 use lib.Dec.{leb}
@@ -93,7 +93,8 @@ module _ (𝓐 : Algebra) where
 
     -- a finding: the first box with a fault, and what it is
     abbrev pub FirstFault : ℕ → Route → ℕ → ℕ → List (Own Route Demand) → Type 1
-    FirstFault n r = Named (λ (b : Own Route Demand). fault 𝓐 N L b ≡ some (record { number = n; route = r })) (λ (b : Own Route Demand). fault 𝓐 N L b ≡ none)
+    FirstFault n r = Named (λ (b : Own Route Demand). fault 𝓐 N L b ≡ some (record { number = n; route = r }))
+        (λ (b : Own Route Demand). fault 𝓐 N L b ≡ none)
 
     pub verdict-found : (n i : ℕ) (r : Route) (c m lo : ℕ) (bs : List (Own Route Demand)) → Rises (λ (b : Own Route Demand). b .id) lo bs
         → verdictFrom 𝓐 N L c bs ≡ found n i r m → FirstFault n r i lo bs × (m ≡ c + length (filter (λ (d : Own Route Demand). leb (d .id) i) bs))
@@ -102,7 +103,8 @@ module _ (𝓐 : Algebra) where
     verdict-found n i r c m lo (b ∷ bs) h e = go (fault 𝓐 N L b) refl e (verdict-found n i r (suc c) m (suc (b .id)) bs (h .1))
       where
         go : (o : Option (Finding Route)) → fault 𝓐 N L b ≡ o → stop 𝓐 o (b .id) (suc c) (verdictFrom 𝓐 N L (suc c) bs) ≡ found n i r m
-            → (verdictFrom 𝓐 N L (suc c) bs ≡ found n i r m → FirstFault n r i (suc (b .id)) bs × (m ≡ suc c + length (filter (λ (d : Own Route Demand). leb (d .id) i) bs)))
+            → (verdictFrom 𝓐 N L (suc c) bs ≡ found n i r m → FirstFault n r i (suc (b .id)) bs
+            × (m ≡ suc c + length (filter (λ (d : Own Route Demand). leb (d .id) i) bs)))
             → FirstFault n r i lo (b ∷ bs) × (m ≡ c + length (filter (λ (d : Own Route Demand). leb (d .id) i) (b ∷ bs)))
         go none q z k =
             let f = k z in
@@ -111,8 +113,7 @@ module _ (𝓐 : Algebra) where
             (named-later _ _ i lo b bs h q (f .0), rw (le-leb (b .id) i (omega arith)) (omega arith))
         go (some f) q z k =
             let j : b .id ≡ i = cc in
-            let y : m ≡ suc c = cc in
-            (
+            let y : m ≡ suc c = cc in (
               named-here _ _ i lo b bs h j (q ∙ ap some (λ t. record { number = number-is t; route = route-is t })),
               rw (le-leb (b .id) i (omega arith), filter-low (λ (d : Own Route Demand). d .id) i (suc (b .id)) bs (omega arith) (h .1)) (omega arith),
             )

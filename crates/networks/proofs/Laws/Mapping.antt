@@ -5,7 +5,6 @@ use mathlib.Core.Path.{_≡_, refl, sym, ap, _∙_}
 use mathlib.Core.Bool.{Bool, true, false, cond, false≢true}
 use mathlib.Core.Option.{Option, none, some, Option·map, Option·getD, bind}
 use Prim.Native.Nat.{ℕ}
-use lib.Dec.{eqb}
 use Rattle.lists.specs.All.{any}
 use Rattle.lists.specs.Filter.{filter-none}
 use Rattle.networks.specs.Algebra.{Algebra}

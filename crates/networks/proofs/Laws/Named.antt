@@ -3,18 +3,15 @@
 --     named-here, named-later       it is the first of a list, or stands behind the first
 --     lowest-some                   the box whose id `lowest` gives
 --     named-box                     it is the network's box with that id
-use mathlib.Core.Path.{_≡_, refl, ap, subst}
+use mathlib.Core.Path.{_≡_, refl, subst}
 use mathlib.Core.Bool.{Bool, true, false, cond}
-use mathlib.Core.Option.{none, some}
+use mathlib.Core.Option.{some}
 use mathlib.Core.List.{List, [], _∷_}
 use Prim.Native.Nat.{ℕ, suc, _≤_, _<_}
 use native.Mathlib.Omega.{arith}
-use lib.Dec.{leb}
-use lib.ListN.{length}
-use borrow.Author.Tests.{le-leb}
 use Rattle.lists.specs.All.{All}
-use Rattle.lists.specs.Filter.{some-inj, none-some, filter}
-use Rattle.lists.specs.Sorted.{Rises, filter-low}
+use Rattle.lists.specs.Filter.{some-inj, none-some}
+use Rattle.lists.specs.Sorted.{Rises}
 use Rattle.networks.specs.Network.{Own, own, Network, boxId, ownBoxes, box}
 use Rattle.networks.specs.Answer.{lowest}
 use Rattle.networks.proofs.Laws.Boxes.{own-there}
@@ -70,5 +67,7 @@ lowest-some {R} {D} test i lo (b ∷ bs) h e = go (test b) refl e (lowest-some t
     go false q z r = named-later _ _ i lo b bs h q (r z)
 
 -- the box that is named is the network's box with that id
-pub named-box : {R P D : Type 0} (N : Network R P D) {Hit Miss : Own R D → Type 0} → Rises boxId 0 (N .boxes) → (i lo : ℕ) (f : Named Hit Miss i lo (ownBoxes N)) → box N i ≡ some (own (f .named))
-named-box {R} {P} {D} N rise i lo f = subst (λ (j : ℕ). box N j ≡ some (own (f .named))) (f .id-is) (f .there (λ (b : Own R D). box N (b .id) ≡ some (own b)) (own-there N rise))
+pub named-box : {R P D : Type 0} (N : Network R P D) {Hit Miss : Own R D → Type 0} → Rises boxId 0 (N .boxes)
+    → (i lo : ℕ) (f : Named Hit Miss i lo (ownBoxes N)) → box N i ≡ some (own (f .named))
+named-box {R} {P} {D} N rise i lo f = subst (λ (j : ℕ). box N j ≡ some (own (f .named))) (f .id-is)
+    (f .there (λ (b : Own R D). box N (b .id) ≡ some (own b)) (own-there N rise))

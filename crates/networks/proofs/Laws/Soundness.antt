@@ -5,7 +5,6 @@ use mathlib.Core.Path.{_≡_, _∙_}
 use mathlib.Core.Bool.{Bool, true}
 use Prim.Native.Nat.{ℕ, _<_}
 use native.Mathlib.Omega.{arith}
-use lib.Dec.{eqb}
 use lib.ListN.{length, length-map}
 use Rattle.lists.specs.All.{All, all-map, all-of, any}
 use Rattle.lists.specs.Filter.{filter, filter-some, length-filter, length-filterMap, all-filterMap}

@@ -6,7 +6,6 @@ use mathlib.Core.Path.{_≡_, refl, sym, ap, _∙_}
 use mathlib.Core.Bool.{Bool, true, false}
 use mathlib.Core.Option.{some}
 use Prim.Native.Nat.{ℕ}
-use lib.Dec.{eqb}
 use Rattle.lists.specs.All.{All, all-map, all-both, any}
 use Rattle.networks.specs.Algebra.{Algebra}
 use Rattle.networks.specs.Network.{Own, NetworkOver, ownBoxes}
