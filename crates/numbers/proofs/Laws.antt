@@ -10,7 +10,7 @@ use Rattle.io.specs.Digits.{digits, Fewest}
 use Rattle.lists.specs.Laid.{over, placed, placed-fits, placed-short}
 use Rattle.numbers.specs.BigEndian.{u16Bytes, u32Bytes}
 use Rattle.numbers.specs.Decimal.{decimal}
-use Rattle.numbers.specs.DecimalLaws.{length-digits, fewest-decimal}
+use Rattle.numbers.proofs.DecimalLaws.{length-digits, fewest-decimal}
 
 pub u32-put : (out half out′ : List ℕ) (at v : ℕ) → half ≡ sets out at (u16Bytes (v / 65536)) → out′ ≡ sets half (at + 2) (u16Bytes (v % 65536))
     → out′ ≡ sets out at (u32Bytes v)

@@ -1,5 +1,3 @@
 -- Numbers as a record holds them, and as a line of text does.
 pub mod BigEndian
-pub mod Codecs
 pub mod Decimal
-pub mod DecimalLaws

@@ -1,3 +1,10 @@
+-- Laws for other crates.
+pub mod Ordered
+pub mod Carried
+pub mod Tags
+pub mod RouteCodec
+pub mod PolicyCodec
+-- Laws for the code's own proofs.
 pub mod OrderLaws
 pub mod WireLaws
 pub mod MetLaws

@@ -3,8 +3,3 @@ pub mod Order
 pub mod Carry
 pub mod Demand
 pub mod Form
-pub mod OrderLaws
-pub mod CarryLaws
-pub mod TagLaws
-pub mod RouteCodec
-pub mod PolicyCodec

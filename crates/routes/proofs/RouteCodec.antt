@@ -13,9 +13,9 @@ use Rattle.lists.specs.Codec.{Codec, byte, blank, pair, named, restated, Bytes}
 use Rattle.lists.specs.First.{every-all}
 use Rattle.lists.specs.Test.{and-l, and-r}
 use Rattle.numbers.specs.BigEndian.{u16At, u16Bytes}
-use Rattle.numbers.specs.Codecs.{u16, u16-below}
+use Rattle.numbers.proofs.Codecs.{u16, u16-below}
 use Rattle.routes.specs.Form.{zeros, fieldsAt, fieldsBytes, routeAt, routeBytes, routeFormed}
-use Rattle.routes.specs.OrderLaws.{fields-ext}
+use Rattle.routes.proofs.Ordered.{fields-ext}
 use Rattle.routes.specs.declared.Fields.{Fields}
 use Rattle.routes.specs.declared.Route.{Route}
 use Rattle.routes.specs.declared.Route.the-variants.{None, Held}

@@ -10,7 +10,7 @@ use lib.ListN.{getD}
 use borrow.Author.Tests.{eqb-true}
 use Rattle.lists.specs.Codec.{Codec, byte, pair, named, restated, Bytes}
 use Rattle.numbers.specs.BigEndian.{u16At, u16Bytes}
-use Rattle.numbers.specs.Codecs.{u16, u16-below}
+use Rattle.numbers.proofs.Codecs.{u16, u16-below}
 use Rattle.routes.specs.Form.{policyAt, policyBytes, policyFormed}
 use Rattle.routes.specs.declared.Policy.{Policy}
 
