@@ -1,7 +1,7 @@
 -- The house's routes keep the laws of choice, whatever the highest cost.
 use Prim.Native.Nat.{ℕ}
-use Rattle.routes.specs.OrderLaws.{better-selective, better-commutative, better-associative, better-none-right}
-use Rattle.routes.specs.CarryLaws.{carry-none}
+use Rattle.routes.proofs.Ordered.{better-selective, better-commutative, better-associative, better-none-right}
+use Rattle.routes.proofs.Carried.{carry-none}
 use Rattle.networks.specs.Algebra.{Choice}
 use Rattle.networks.specs.House.{house}
 

@@ -8,7 +8,7 @@ use Rattle.routes.specs.declared.Route.the-variants.{None}
 use Rattle.routes.specs.Order.{beats, same}
 use Rattle.routes.specs.Carry.{carried}
 use Rattle.routes.specs.Demand.{meets}
-use Rattle.routes.specs.OrderLaws.{same-true, same-refl}
+use Rattle.routes.proofs.Ordered.{same-true, same-refl}
 use Rattle.networks.specs.Algebra.{Algebra}
 
 abbrev pub house : ℕ → Algebra
