@@ -19,7 +19,8 @@ use Rattle.networks.proofs.Laws.Formed.{Formed, sound-formed}
 use Rattle.networks.proofs.Laws.Cutting.{Fits, cut-answer, own-cut, cuts-fits}
 use Rattle.networks.proofs.Laws.Recut.{both-numbered, meet, first-fits, second-fits, recut}
 
-swapped : {R : Type 0} (X Y Z : Sheet R) → Third X Y Z → Third Y X Z
+-- X and Y may change places in all of this
+pub swapped : {R : Type 0} (X Y Z : Sheet R) → Third X Y Z → Third Y X Z
 swapped X Y Z h = record {
   first-notes = h .second-notes;
   second-notes = h .first-notes;

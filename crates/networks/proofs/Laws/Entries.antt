@@ -1,11 +1,16 @@
 -- What a sheet or a list says of a box, by its entry.
 --     number-entry .. listed-none     with an entry and without
 --     note-noted, same-notes          sheets with the same boxes and notes have the same note for every box
+--     third                           three such sheets, as `Third` has them
 use mathlib.Core.Path.{_≡_, refl, sym, ap, _∙_}
+use mathlib.Core.Bool.{true}
+use mathlib.Core.Logic.{_↔_}
 use mathlib.Core.Option.{Option, none, some, Option·map}
 use Prim.Native.Nat.{ℕ}
 use Rattle.lists.specs.Sorted.{find-map}
 use Rattle.networks.specs.Sheets.{SheetEntry, ListEntry, Sheet, RouteList, sheetEntry, listEntry, number, note, listed, noted}
+use Rattle.networks.specs.Answer.{isSome}
+use Rattle.networks.specs.Cut.{Third}
 
 module _ {R : Type 0} where
   pub number-entry : (S : Sheet R) (i : ℕ) (e : SheetEntry R) → sheetEntry S i ≡ some e → number S i ≡ e .fragment
@@ -41,3 +46,9 @@ module _ {R : Type 0} where
 
   pub same-notes : (S T : Sheet R) → noted S ≡ noted T → (i : ℕ) → note S i ≡ note T i
   same-notes S T e i = sym (note-noted S i) ∙ ap (λ (L : RouteList R). listed L i) e ∙ note-noted T i
+
+  pub third : (X Y Z : Sheet R) → noted X ≡ noted Z → noted Y ≡ noted Z
+      → ((u v : ℕ) → isSome (note Z u) ≡ true → isSome (note Z v) ≡ true
+      → (number Z u ≡ number Z v) ↔ ((number X u ≡ number X v) × (number Y u ≡ number Y v)))
+      → Third X Y Z
+  third X Y Z e f together = record { first-notes = same-notes X Z e; second-notes = same-notes Y Z f; together = together }
