@@ -1,0 +1,206 @@
+#!/usr/bin/env python3
+"""Makes the example plans of this directory, and with the reference the answers to them.
+
+    python3 make.py            write all files
+    python3 make.py --check    write nothing; say which files differ from what would be written
+
+A plan NAME is NAME.network, NAME.list and NAME.sheet, put together as NAME.judge (what the judge
+reads) and NAME.cutK (what the cutter reads to cut out fragment K). Each input's answer stands in
+the file of the same name with .out behind it. NAME.partK.judge is fragment K, as it was cut out,
+with the list of the whole.
+"""
+
+import pathlib
+import struct
+import subprocess
+import sys
+
+HERE = pathlib.Path(__file__).resolve().parent
+REFERENCE = HERE.parent / "reference"
+
+NONE = bytes(9)
+
+
+def route(preference, cost, origin, tags=0):
+    """The nine bytes of a route."""
+    return struct.pack(">BHHHH", 1, preference, cost, origin, tags)
+
+
+def policy(need=0, bar=0, clear=0, set=0, preference=None, add=1):
+    flag = 0 if preference is None else 1
+    return struct.pack(">HHHHBHH", need, bar, clear, set, flag, preference or 0, add)
+
+
+def node(id, initial=NONE, promise=None, demand=(0, 0, 0)):
+    """An own node. The demand is its number, ceiling and tags."""
+    flag = 0 if promise is None else 1
+    head = struct.pack(">HB", id, 0) + initial
+    return head + bytes([flag]) + (promise or NONE) + struct.pack(">BHH", *demand)
+
+
+def record(body):
+    """A record: length, version 1, and what follows the version."""
+    return struct.pack(">IB", len(body) + 1, 1) + body
+
+
+def network(policies, nodes, wires):
+    """Nodes by id; wires as (from, to, policy number)."""
+    edges = sorted((to, source, number) for source, to, number in wires)
+    counts = struct.pack(">HHB", len(nodes), len(edges), len(policies))
+    parts = policies + [nodes[id] for id in sorted(nodes)]
+    parts += [struct.pack(">HHB", *edge) for edge in edges]
+    return record(counts + b"".join(parts))
+
+
+def route_list(held):
+    entries = [struct.pack(">H", id) + held[id] for id in sorted(held)]
+    return record(struct.pack(">H", len(entries)) + b"".join(entries))
+
+
+def sheet(numbers, notes):
+    entries = [struct.pack(">HB", id, numbers[id]) + notes[id] for id in sorted(numbers)]
+    return record(struct.pack(">H", len(entries)) + b"".join(entries))
+
+
+def both_ways(pairs, number=0):
+    return [(a, b, number) for a, b in pairs] + [(b, a, number) for a, b in pairs]
+
+
+def chain():
+    """Boxes 1, 2, 3 in a row; box 3 must hold a route of cost 2 at most. Cut 1, 2 | 3."""
+    nodes = {1: node(1, route(100, 0, 1)), 2: node(2), 3: node(3, demand=(1, 2, 0))}
+    held = {1 + cost: route(100, cost, 1) for cost in range(3)}
+    plan = network([policy()], nodes, both_ways([(1, 2), (2, 3)]))
+    return plan, held, {1: 0, 2: 0, 3: 1}, held
+
+
+# A box that goes straight to box 1, and one that goes through another that goes straight.
+START, STRAIGHT, AROUND = route(100, 0, 1), route(100, 1, 1), route(200, 2, 1, 1)
+
+# Straight from box 1; and from one of the others: marked and preferred, and barred when marked.
+AROUND_POLICIES = [policy(), policy(bar=1, set=1, preference=200)]
+
+
+def two_answers():
+    """Boxes 2 and 3 each prefer to go through the other (DISAGREE). Cut 1, 2 | 3."""
+    nodes = {1: node(1, START), 2: node(2), 3: node(3)}
+    wires = [(1, 2, 0), (1, 3, 0), (2, 3, 1), (3, 2, 1)]
+    plan = network(AROUND_POLICIES, nodes, wires)
+    held = {1: START, 2: STRAIGHT, 3: AROUND}
+    return plan, held, {1: 0, 2: 0, 3: 1}, held
+
+
+def two_answers_mirror():
+    """The same network and cut, with the other answer as list and notes."""
+    plan, _, numbers, _ = two_answers()
+    held = {1: START, 2: AROUND, 3: STRAIGHT}
+    return plan, held, numbers, held
+
+
+def two_answers_mixed():
+    """The same network with one answer as the list and the other as the notes."""
+    plan, held, numbers, _ = two_answers()
+    return plan, held, numbers, two_answers_mirror()[3]
+
+
+def bad_gadget():
+    """Boxes 2, 3, 4 around box 1, each preferring to go through the next: no list passes. The
+    proposal has 2 go through 3, 3 and 4 straight. Cut 1 | 2 | 3, 4."""
+    nodes = {1: node(1, START), 2: node(2), 3: node(3), 4: node(4)}
+    wires = [(1, 2, 0), (1, 3, 0), (1, 4, 0), (3, 2, 1), (4, 3, 1), (2, 4, 1)]
+    plan = network(AROUND_POLICIES, nodes, wires)
+    held = {1: START, 2: AROUND, 3: STRAIGHT, 4: STRAIGHT}
+    return plan, held, {1: 0, 2: 1, 3: 2, 4: 2}, held
+
+
+def fat_tree_wires():
+    """Four pods under a spine of four: boxes 0 to 3 are the spine, each pod has two upper boxes
+    (4 and 5 in the first pod) and two lower ones (6 and 7)."""
+    pairs = []
+    for pod in range(4):
+        upper = [4 + 4 * pod, 5 + 4 * pod]
+        lower = [6 + 4 * pod, 7 + 4 * pod]
+        pairs += [(u, l) for u in upper for l in lower]
+        pairs += [(2 * place + i, upper[place]) for place in range(2) for i in range(2)]
+    return both_ways(pairs)
+
+
+def fat_tree_plan(wires, policies):
+    """Box 6 is the destination; every box must reach it at a cost of 4 at most. Cut by pods, the
+    spine being fragment 4."""
+    nodes = {id: node(id, demand=(1, 4, 0)) for id in range(20)}
+    nodes[6] = node(6, route(100, 0, 6), demand=(1, 4, 0))
+    cost = {id: 2 for id in range(4)}
+    for id in range(4, 20):
+        pod, lower = (id - 4) // 4, (id - 4) % 4 >= 2
+        cost[id] = {(True, False): 1, (True, True): 2, (False, False): 3, (False, True): 4}[
+            (pod == 0, lower)
+        ]
+    cost[6] = 0
+    held = {id: route(100, cost[id], 6) for id in range(20)}
+    numbers = {id: 4 if id < 4 else (id - 4) // 4 for id in range(20)}
+    return network(policies, nodes, wires), held, numbers, held
+
+
+def fat_tree():
+    """The fat-tree of four pods."""
+    return fat_tree_plan(fat_tree_wires(), [policy()])
+
+
+def fat_tree_drop():
+    """The same, but box 4 lets nothing out: only the spine's fragment has a fault."""
+    wires = [(a, b, 1 if a == 4 else 0) for a, b, _ in fat_tree_wires()]
+    return fat_tree_plan(wires, [policy(), policy(need=0xFFFF)])
+
+
+PLANS = {
+    "chain": chain,
+    "two-answers": two_answers,
+    "two-answers-mirror": two_answers_mirror,
+    "two-answers-mixed": two_answers_mixed,
+    "bad-gadget": bad_gadget,
+    "fat-tree": fat_tree,
+    "fat-tree-drop": fat_tree_drop,
+}
+
+
+def reference(command, data):
+    """What the reference prints."""
+    run = ["cargo", "run", "--release", "--offline", "--quiet", "--", command]
+    done = subprocess.run(run, cwd=REFERENCE, input=data, stdout=subprocess.PIPE, check=True)
+    return done.stdout
+
+
+def files_of(name):
+    """All files of a plan, by name."""
+    plan, held, numbers, notes = PLANS[name]()
+    listed, cut_by = route_list(held), sheet(numbers, notes)
+    files = {"network": plan, "list": listed, "sheet": cut_by, "judge": plan + listed}
+    files["judge.out"] = reference("judge", plan + listed)
+    for k in sorted(set(numbers.values())):
+        asked = plan + bytes([k]) + cut_by
+        fragment = reference("cut", asked)
+        files[f"cut{k}"], files[f"cut{k}.out"] = asked, fragment
+        files[f"part{k}.judge"] = fragment + listed
+        files[f"part{k}.judge.out"] = reference("judge", fragment + listed)
+    return {f"{name}.{ending}": data for ending, data in files.items()}
+
+
+def main():
+    files = {}
+    for name in PLANS:
+        files.update(files_of(name))
+    if sys.argv[1:] != ["--check"]:
+        for name, data in files.items():
+            (HERE / name).write_bytes(data)
+        return 0
+    kept = {path.name for path in HERE.iterdir()} - {"make.py", "README.md"}
+    wrong = {name for name in files if name in kept and (HERE / name).read_bytes() != files[name]}
+    wrong |= kept ^ set(files)
+    for name in sorted(wrong):
+        print(f"differs: {name}")
+    return 1 if wrong else 0
+
+
+if __name__ == "__main__":
+    sys.exit(main())

@@ -1,0 +1,197 @@
+//! Damages: changes to an input that call for one refusal or another. Which one is given back is
+//! for the check to say; a damage may hide behind another, or find nothing of its sort to change.
+
+use crate::program;
+use crate::random::Random;
+use crate::record::{ENTRIES_HEAD, LIST_ENTRY, NETWORK_HEAD, SHEET_ENTRY};
+
+mod entries;
+mod layout;
+mod network;
+
+/// The two programs.
+#[derive(Clone, Copy, Debug, PartialEq, Eq)]
+pub enum Call {
+    Judge,
+    Cut,
+}
+
+/// An input by its parts; only the cutter's has a fragment asked.
+#[derive(Clone, Debug)]
+pub struct Input {
+    pub call: Call,
+    pub network: Vec<u8>,
+    pub asked: Option<u8>,
+    pub second: Vec<u8>,
+}
+
+impl Call {
+    pub fn answer(self, input: &[u8]) -> Vec<u8> {
+        match self {
+            Call::Judge => program::judge_bytes(input),
+            Call::Cut => program::cut_bytes(input),
+        }
+    }
+}
+
+impl Input {
+    pub fn judge(network: Vec<u8>, list: Vec<u8>) -> Input {
+        Input {
+            call: Call::Judge,
+            network,
+            asked: None,
+            second: list,
+        }
+    }
+
+    pub fn cut(network: Vec<u8>, asked: u8, sheet: Vec<u8>) -> Input {
+        Input {
+            call: Call::Cut,
+            network,
+            asked: Some(asked),
+            second: sheet,
+        }
+    }
+
+    pub fn bytes(&self) -> Vec<u8> {
+        let asked = Vec::from_iter(self.asked);
+        [&self.network[..], &asked, &self.second].concat()
+    }
+
+    pub fn answer(&self) -> Vec<u8> {
+        self.call.answer(&self.bytes())
+    }
+
+    /// Bytes of an entry of the second record.
+    fn entry(&self) -> usize {
+        match self.call {
+            Call::Judge => LIST_ENTRY,
+            Call::Cut => SHEET_ENTRY,
+        }
+    }
+}
+
+pub type Damage = fn(&mut Input, &mut Random);
+
+/// All damages, with names for the tests to tell them by.
+pub const ALL: [(&str, Damage); 39] = [
+    ("network under 10 bytes", short),
+    ("network under its total", under_total),
+    ("network's version", |i, r| version(&mut i.network, r)),
+    ("network's count over its bound", network::count_over),
+    ("network's count off", network::count_off),
+    ("network's length off", |i, r| length(&mut i.network, r)),
+    ("policy's flag", network::policy_flag),
+    ("policy's preference", network::policy_preference),
+    ("node's order", network::node_order),
+    ("node's kind", network::node_kind),
+    ("node's route", network::node_route),
+    ("node's promise flag", network::node_flag),
+    ("node's promised route", network::node_promised),
+    ("node's demand", network::node_demand),
+    ("node's ceiling or tags", network::node_asks),
+    ("input with promise or demand", network::input_asks),
+    ("no own node", network::no_own_node),
+    ("no node", network::no_node),
+    ("edge's order", network::edge_order),
+    ("edge to nobody", network::edge_to),
+    ("edge from nobody", network::edge_from),
+    ("edge to itself", network::edge_loop),
+    ("edge to an input", network::edge_to_input),
+    ("edge's policy", network::edge_policy),
+    ("input without an edge out", network::idle_input),
+    ("second under 7 bytes", second_short),
+    ("second under its total", second_under_total),
+    ("second's version", |i, r| version(&mut i.second, r)),
+    ("second's count over its bound", entries::count_over),
+    ("second's count off", entries::count_off),
+    ("second's length off", |i, r| length(&mut i.second, r)),
+    ("bytes after the second", longer),
+    ("entry's order", entries::order),
+    ("entry's route", entries::route),
+    ("entry's fragment", entries::fragment),
+    ("entry missing", entries::missing),
+    ("fragment asked is absent", entries::asked_absent),
+    ("fragment asked is over 63", entries::asked_high),
+    ("promise other than the note", network::promise),
+];
+
+fn short(input: &mut Input, random: &mut Random) {
+    input.asked = None;
+    input.second.clear();
+    input.network.truncate(random.below(NETWORK_HEAD));
+}
+
+fn under_total(input: &mut Input, random: &mut Random) {
+    input.asked = None;
+    input.second.clear();
+    cut_off(&mut input.network, NETWORK_HEAD, random);
+}
+
+fn second_short(input: &mut Input, random: &mut Random) {
+    input.second.truncate(random.below(ENTRIES_HEAD));
+}
+
+fn second_under_total(input: &mut Input, random: &mut Random) {
+    cut_off(&mut input.second, ENTRIES_HEAD, random);
+}
+
+/// Takes bytes from the end, the last one at least, and leaves the head.
+fn cut_off(record: &mut Vec<u8>, head: usize, random: &mut Random) {
+    if record.len() > head {
+        record.truncate(random.within(head, record.len() - 1));
+    }
+}
+
+fn longer(input: &mut Input, random: &mut Random) {
+    let more = random.within(1, input.entry() + 1);
+    input.second.extend((0..more).map(|_| random.byte()));
+}
+
+fn version(record: &mut [u8], random: &mut Random) {
+    let other = *random.pick(&[0, 2, 3, 255]);
+    set(record, 4, &[other]);
+}
+
+/// Another length: near the right one, or far off.
+fn length(record: &mut [u8], random: &mut Random) {
+    let Some(&field) = record.first_chunk() else {
+        return;
+    };
+    let right = u32::from_be_bytes(field);
+    let near = random.within(1, 12) as u32;
+    let other = match random.below(6) {
+        0 => right.wrapping_add(near),
+        1 | 2 => right.wrapping_sub(near),
+        3 => right ^ 1 << random.below(32),
+        4 => *random.pick(&[0, 3, 5, 6, u32::MAX, u32::MAX - 3]),
+        _ => right.wrapping_add(4),
+    };
+    set(record, 0, &other.to_be_bytes());
+}
+
+/// Writes bytes over those at an offset, where the record is long enough.
+fn set(record: &mut [u8], offset: usize, bytes: &[u8]) {
+    if let Some(part) = record.get_mut(offset..offset + bytes.len()) {
+        part.copy_from_slice(bytes);
+    }
+}
+
+/// The 16-bit number at an offset, or 0 where the record ends before it.
+fn number(record: &[u8], offset: usize) -> u16 {
+    match record.get(offset..offset + 2) {
+        Some(bytes) => u16::from_be_bytes([bytes[0], bytes[1]]),
+        None => 0,
+    }
+}
+
+/// Nine bytes that are no route: a present byte over 1, or bytes behind a zero.
+fn ill_route(random: &mut Random) -> [u8; 9] {
+    let mut route = [0; 9];
+    if random.one_in(2) {
+        route[0] = random.within(2, 255) as u8
+    } else {
+        route[random.within(1, 8)] = random.within(1, 255) as u8
+    }
+    route
+}

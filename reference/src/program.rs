@@ -1,0 +1,87 @@
+//! The two programs, from standard input to standard output.
+
+use crate::cut;
+use crate::judge::{self, Verdict};
+use crate::record::{Refusal, LARGEST_LIST, LARGEST_NETWORK, LARGEST_SHEET};
+use crate::route::Route;
+
+/// The most bytes that the judge reads: the two largest records together.
+pub const JUDGE_BOUND: usize = LARGEST_NETWORK + LARGEST_LIST;
+/// The most bytes that the cutter reads: one more, for the fragment asked.
+pub const CUT_BOUND: usize = LARGEST_NETWORK + 1 + LARGEST_SHEET;
+
+/// The judge: a network and then a list; one line back.
+pub fn judge_bytes(input: &[u8]) -> Vec<u8> {
+    if input.len() > JUDGE_BOUND {
+        return refused_line(over_size(JUDGE_BOUND));
+    }
+    let (network, list) = split(input);
+    match judge::judge(network, list) {
+        Verdict::Pass { judged } => format!("pass {judged}\n").into_bytes(),
+        Verdict::Refused(refusal) => refused_line(refusal),
+        Verdict::Found {
+            node,
+            judged,
+            fault,
+        } => {
+            let number = fault.number();
+            let route = route_words(fault.route());
+            format!("found {number} {node} {judged} {route}\n").into_bytes()
+        }
+    }
+}
+
+/// The cutter: a network, the fragment asked, and then a sheet; the fragment back, or a line.
+pub fn cut_bytes(input: &[u8]) -> Vec<u8> {
+    if input.len() > CUT_BOUND {
+        return refused_line(over_size(CUT_BOUND));
+    }
+    let (network, rest) = split(input);
+    let (asked, sheet) = match rest {
+        [] => (0, rest),
+        [asked, sheet @ ..] => (*asked, sheet),
+    };
+    // A fragment is never larger than its network.
+    let mut out = vec![0; network.len()];
+    match cut::cut(network, sheet, asked, &mut out) {
+        Ok(length) => {
+            out.truncate(length);
+            out
+        }
+        Err(refusal) => refused_line(refusal),
+    }
+}
+
+/// Parts the network from what follows. Where the length field is missing or points past the
+/// end, all bytes are the network's and the check will say what is wrong with them.
+pub fn split(input: &[u8]) -> (&[u8], &[u8]) {
+    let Some(&field) = input.first_chunk() else {
+        return (input, &[]);
+    };
+    let total = u64::from(u32::from_be_bytes(field)) + 4;
+    match usize::try_from(total) {
+        Ok(total) if total <= input.len() => input.split_at(total),
+        _ => (input, &[]),
+    }
+}
+
+fn over_size(bound: usize) -> Refusal {
+    Refusal {
+        number: 5,
+        place: bound,
+    }
+}
+
+fn refused_line(refusal: Refusal) -> Vec<u8> {
+    let Refusal { number, place } = refusal;
+    format!("refused {number} {place}\n").into_bytes()
+}
+
+fn route_words(route: Option<Route>) -> String {
+    let Some(route) = route else {
+        return "none".to_string();
+    };
+    let (preference, cost) = (route.preference(), route.cost());
+    let (origin, tags) = (route.origin(), route.tags());
+    format!("{preference} {cost} {origin} {tags}")
+}

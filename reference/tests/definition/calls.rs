@@ -1,0 +1,149 @@
+//! Judging and cutting.
+
+use super::forms::{both, word, Refused, Rows};
+use std::cmp::Reverse;
+use std::collections::BTreeMap;
+
+/// Preference, cost, origin, tags.
+type Fields = Option<[u16; 4]>;
+
+fn fields(nine: &[u8]) -> Fields {
+    (nine[0] == 1).then(|| [1, 3, 5, 7].map(|at| word(nine, at)))
+}
+
+fn carried(policy: &[u8], held: Fields) -> Fields {
+    let [preference, cost, origin, tags] = held?;
+    let [need, bar, clear, set] = [0, 2, 4, 6].map(|at| word(policy, at));
+    let sum = u32::from(cost) + u32::from(word(policy, 11));
+    let stops = need & !tags != 0 || bar & tags != 0 || sum > 65_535;
+    let preference = match policy[8] {
+        1 => word(policy, 9),
+        _ => preference,
+    };
+    (!stops).then_some([preference, sum as u16, origin, (tags & !clear) | set])
+}
+
+/// What a node holds: as listed, or as assumed.
+fn held(rows: &Rows, list: &BTreeMap<u16, &[u8]>, id: u16) -> Fields {
+    let mut nodes = rows.nodes.iter();
+    let node = nodes.find(|node| word(node, 0) == id).expect("a node");
+    match node[2] {
+        0 => fields(&list[&id][2..]),
+        _ => fields(&node[3..]),
+    }
+}
+
+/// The best of the initial route and all that the incoming edges carry.
+fn due(rows: &Rows, list: &BTreeMap<u16, &[u8]>, node: &[u8]) -> Fields {
+    let incoming = rows.edges.iter().filter(|edge| edge[..2] == node[..2]);
+    let arrives = incoming.map(|edge| {
+        let policy = rows.policies[usize::from(edge[4])];
+        carried(policy, held(rows, list, word(edge, 2)))
+    });
+    let all = arrives.chain([fields(&node[3..])]).flatten();
+    all.max_by_key(|[p, c, o, t]| (*p, Reverse(*c), Reverse(*o), Reverse(*t)))
+}
+
+fn met(node: &[u8], held: Fields) -> bool {
+    let [ceiling, tags] = [23, 25].map(|at| word(node, at));
+    match (node[22], held) {
+        (0, _) | (2, None) => true,
+        (1, Some(route)) => route[1] <= ceiling && tags & !route[3] == 0,
+        _ => false,
+    }
+}
+
+/// The judge's line.
+pub fn judge(network: &[u8], list: &[u8]) -> Result<String, Refused> {
+    let (rows, list) = both(network, list, 11)?;
+    let own = rows.nodes.iter().filter(|node| node[2] == 0);
+    for (before, node) in own.clone().enumerate() {
+        let id = word(node, 0);
+        let held = held(&rows, &list, id);
+        let (due, promised) = (due(&rows, &list, node), fields(&node[13..]));
+        let faults = [
+            (held != due, 31, due),
+            (node[12] == 1 && held != promised, 32, promised),
+            (!met(node, held), 33, held),
+        ];
+        if let Some((_, number, route)) = faults.iter().find(|fault| fault.0) {
+            let words = route.map(|route| route.map(|word| word.to_string()).join(" "));
+            let words = words.unwrap_or("none".into());
+            return Ok(format!("found {number} {id} {} {words}\n", before + 1));
+        }
+    }
+    Ok(format!("pass {}\n", own.count()))
+}
+
+/// A network, the sheet's entries and the fragment asked.
+struct Cut<'a> {
+    rows: Rows<'a>,
+    sheet: BTreeMap<u16, &'a [u8]>,
+    asked: u8,
+}
+
+impl Cut<'_> {
+    /// The fragment number of an own node.
+    fn number(&self, id: u16) -> Option<u8> {
+        self.rows.is_own(id).then(|| self.sheet[&id][2])
+    }
+
+    fn note(&self, id: u16) -> &[u8] {
+        &self.sheet[&id][3..]
+    }
+
+    fn inside(&self, id: u16) -> bool {
+        self.number(id) == Some(self.asked)
+    }
+
+    /// A cut edge leaves the node.
+    fn leaves(&self, id: u16) -> bool {
+        let other = |edge: &&[u8]| self.number(word(edge, 0)) != self.number(id);
+        let mut edges = self.rows.edges.iter();
+        self.rows.is_own(id) && edges.any(|edge| word(edge, 2) == id && other(edge))
+    }
+
+    /// An edge leads from the node into the fragment.
+    fn feeds(&self, id: u16) -> bool {
+        let mut edges = self.rows.edges.iter();
+        edges.any(|edge| word(edge, 2) == id && self.inside(word(edge, 0)))
+    }
+
+    fn node(&self, node: &[u8]) -> Vec<u8> {
+        let id = word(node, 0);
+        match (self.inside(id), self.feeds(id), self.rows.is_own(id)) {
+            (true, ..) if node[12] == 0 && self.leaves(id) => {
+                [&node[..12], &[1], self.note(id), &node[22..]].concat()
+            }
+            (true, ..) | (_, true, false) => node.to_vec(),
+            (_, true, true) => [&node[..2], &[1], self.note(id), &[0; 15]].concat(),
+            _ => vec![],
+        }
+    }
+}
+
+/// The fragment.
+pub fn cut(network: &[u8], asked: u8, sheet: &[u8]) -> Result<Vec<u8>, Refused> {
+    let (rows, sheet) = both(network, sheet, 12)?;
+    let cut = Cut { rows, sheet, asked };
+    let nodes = &cut.rows.nodes;
+    if !nodes.iter().any(|node| cut.inside(word(node, 0))) {
+        return Err((18, asked.into()));
+    }
+    let breaks = |node: &&&[u8]| {
+        let id = word(node, 0);
+        node[12] == 1 && cut.leaves(id) && node[13..22] != *cut.note(id)
+    };
+    if let Some(node) = nodes.iter().find(breaks) {
+        return Err((19, word(node, 0).into()));
+    }
+    let nodes: Vec<u8> = nodes.iter().flat_map(|node| cut.node(node)).collect();
+    let kept = |edge: &&&[u8]| cut.inside(word(edge, 0));
+    let edges: Vec<&[u8]> = cut.rows.edges.iter().filter(kept).copied().collect();
+    let mut body = vec![1];
+    body.extend(((nodes.len() / 27) as u16).to_be_bytes());
+    body.extend((edges.len() as u16).to_be_bytes());
+    body.push(cut.rows.policies.len() as u8);
+    body.extend([cut.rows.policies.concat(), nodes, edges.concat()].concat());
+    Ok([&(body.len() as u32).to_be_bytes()[..], &body].concat())
+}
