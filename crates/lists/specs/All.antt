@@ -5,6 +5,9 @@
 use mathlib.Core.Path.{_≡_, refl, ap₂, _∙_, ap}
 use mathlib.Core.Bool.{Bool, true, false, _&&_, _||_, false≢true}
 use mathlib.Core.List.{List, [], _∷_}
+use Prim.Native.Nat.{_<_}
+use native.Mathlib.Omega.{arith}
+use lib.ListN.{length}
 use Rattle.lists.specs.Test.{and-l, and-r, and-i, or-i-l, or-i-r, or-f-l, or-f-r, or-swap}
 
 module _ {A : Type 0} where
@@ -49,6 +52,15 @@ module _ {A : Type 0} where
   pub any-false : (p : A → Bool) (xs : List A) → any p xs ≡ false → All (λ (x : A). p x ≡ false) xs
   any-false p [] h = tt
   any-false p (x ∷ xs) h = (or-f-l (p x) (any p xs) h, any-false p xs (or-f-r (p x) (any p xs) h))
+
+  pub false-any : (p : A → Bool) (xs : List A) → All (λ (x : A). p x ≡ false) xs → any p xs ≡ false
+  false-any p [] h = refl
+  false-any p (x ∷ xs) h = rw (h .0) (false-any p xs (h .1))
+
+  -- a test that every element of a list with an element meets
+  pub all-any : (p : A → Bool) (xs : List A) → 0 < length xs → All (λ (x : A). p x ≡ true) xs → any p xs ≡ true
+  all-any p [] l h = absurd (omega arith)
+  all-any p (x ∷ xs) l h = or-i-l (p x) (any p xs) (h .0)
 
   -- at each element of the list: any test that it meets is met by some element
   pub any-here : (xs : List A) → All (λ (x : A). (p : A → Bool) → p x ≡ true → any p xs ≡ true) xs

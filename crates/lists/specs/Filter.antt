@@ -1,14 +1,16 @@
 -- The elements that meet a test, and the images that a partial function gives, in order.
 -- The library's `filter` goes by a decision of a proposition; this one goes by a test. `filterMap` is the library's.
 --     filter        its laws, and what any and All say of it
+--     map           what any and All say of it
 --     filterMap     its laws, and what any and All say of it (twice over: filterMap-filterMap of mathlib.Core.List)
 use mathlib.Core.Path.{_≡_, refl, sym, ap, ap₂, _∙_, subst}
-use mathlib.Core.Bool.{Bool, true, false, cond, _&&_, _||_}
+use mathlib.Core.Bool.{Bool, true, false, cond, _&&_, _||_, false≢true}
 use mathlib.Core.Option.{Option, none, some, Option·elim}
-use mathlib.Core.List.{List, [], _∷_, filterMap, map}
-use Prim.Native.Nat.{ℕ, suc, _≤_}
+use mathlib.Core.List.{List, [], _∷_, filterMap, filterMap-some, map}
+use Prim.Native.Nat.{ℕ, suc, _≤_, _<_}
 use native.Mathlib.Omega.{arith}
 use lib.ListN.{length}
+use Rattle.lists.specs.Test.{or-f-l, or-f-r}
 use Rattle.lists.specs.All.{All, any}
 
 pub some-inj : {A : Type 0} {x y : A} → some x ≡ some y → x ≡ y
@@ -47,6 +49,18 @@ module _ {A : Type 0} where
       go true h = omega arith
       go false h = omega arith
 
+  pub filter-some : (p : A → Bool) (xs : List A) → any p xs ≡ true → 0 < length (filter p xs)
+  filter-some p [] e = absurd (false≢true e)
+  filter-some p (x ∷ xs) e = go (p x) e (filter-some p xs)
+    where
+      go : (t : Bool) → t || any p xs ≡ true → (any p xs ≡ true → 0 < length (filter p xs)) → 0 < length (cond t (x ∷ filter p xs) (filter p xs))
+      go true h r = omega arith
+      go false h r = r h
+
+  pub filter-none : (p : A → Bool) (xs : List A) → any p xs ≡ false → filter p xs ≡ []
+  filter-none p [] e = refl
+  filter-none p (x ∷ xs) e = rw (or-f-l (p x) (any p xs) e) (filter-none p xs (or-f-r (p x) (any p xs) e))
+
   pub any-filter : (p q : A → Bool) (xs : List A) → any q (filter p xs) ≡ any (λ (x : A). p x && q x) xs
   any-filter p q [] = refl
   any-filter p q (x ∷ xs) = go (p x) (any-filter p q xs)
@@ -64,6 +78,16 @@ module _ {A : Type 0} where
       go true f r = (f refl, r)
       go false f r = r
 
+  -- and back
+  pub filtered-all : (P : A → Type 0) (p : A → Bool) (xs : List A) → All P (filter p xs) → All (λ (x : A). p x ≡ true → P x) xs
+  filtered-all P p [] h = tt
+  filtered-all P p (x ∷ xs) h = go (p x) h (filtered-all P p xs)
+    where
+      go : (t : Bool) → All P (cond t (x ∷ filter p xs) (filter p xs)) → (All P (filter p xs) → All (λ (y : A). p y ≡ true → P y) xs)
+          → (t ≡ true → P x) × All (λ (y : A). p y ≡ true → P y) xs
+      go true k r = (λ e. k .0, r (k .1))
+      go false k r = (λ e. absurd (false≢true e), r k)
+
 -- whether there is a value, and it meets a test
 abbrev pub holds : {B : Type 0} → (B → Bool) → Option B → Bool
 holds q none = false
@@ -73,6 +97,30 @@ module _ {A B : Type 0} where
   pub map-congr : (f g : A → B) (xs : List A) → All (λ (x : A). f x ≡ g x) xs → map f xs ≡ map g xs
   map-congr f g [] h = refl
   map-congr f g (x ∷ xs) h = ap₂ _∷_ (h .0) (map-congr f g xs (h .1))
+
+  pub all-mapped : (P : B → Type 0) (f : A → B) (xs : List A) → All (λ (x : A). P (f x)) xs → All P (map f xs)
+  all-mapped P f [] h = tt
+  all-mapped P f (x ∷ xs) h = (h .0, all-mapped P f xs (h .1))
+
+  pub mapped-all : (P : B → Type 0) (f : A → B) (xs : List A) → All P (map f xs) → All (λ (x : A). P (f x)) xs
+  mapped-all P f [] h = tt
+  mapped-all P f (x ∷ xs) h = (h .0, mapped-all P f xs (h .1))
+
+  pub any-mapped : (p : B → Bool) (f : A → B) (xs : List A) → any p (map f xs) ≡ any (λ (x : A). p (f x)) xs
+  any-mapped p f [] = refl
+  any-mapped p f (x ∷ xs) = ap (_||_ (p (f x))) (any-mapped p f xs)
+
+  -- the images of the elements that meet a test
+  pub map-filter : (f : A → B) (p : A → Bool) (xs : List A) → map f (filter p xs) ≡ filterMap (λ (x : A). cond (p x) (some (f x)) none) xs
+  unfolding filterMap
+  map-filter f p [] = refl
+  map-filter f p (x ∷ xs) = go (p x) (map-filter f p xs)
+    where
+      go : (t : Bool) → map f (filter p xs) ≡ filterMap (λ (y : A). cond (p y) (some (f y)) none) xs
+          → map f (cond t (x ∷ filter p xs) (filter p xs))
+          ≡ Option·elim (cond t (some (f x)) none) (filterMap (λ (y : A). cond (p y) (some (f y)) none) xs) (λ b. b ∷ filterMap (λ (y : A). cond (p y) (some (f y)) none) xs)
+      go true e = ap (_∷_ (f x)) e
+      go false e = e
 
   pub filterMap-congr : (f g : A → Option B) (xs : List A) → All (λ (x : A). f x ≡ g x) xs → filterMap f xs ≡ filterMap g xs
   unfolding filterMap
@@ -118,3 +166,7 @@ module _ {A B : Type 0} where
           → ((y : B) → f x ≡ some y → P y) × All (λ (z : A). (y : B) → f z ≡ some y → P y) xs
       go none q k r = (λ y e. absurd (none-some (sym q ∙ e)), r k)
       go (some z) q k r = (λ y e. subst P (some-inj (sym q ∙ e)) (k .0), r (k .1))
+
+-- a partial function that gives back every element
+pub filterMap-self : {A : Type 0} (f : A → Option A) (xs : List A) → All (λ (x : A). f x ≡ some x) xs → filterMap f xs ≡ xs
+filterMap-self f xs h = filterMap-congr f some xs h ∙ filterMap-some xs

@@ -9,7 +9,7 @@ use mathlib.Core.List.{List, [], _∷_, filterMap, map}
 use Prim.Native.Nat.{ℕ, suc, _≤_, _<_}
 use native.Mathlib.Omega.{arith}
 use lib.Dec.{eqb, leb}
-use borrow.Author.Tests.{eqb-true, eq-eqb, ne-eqb, leb-true, le-leb}
+use borrow.Author.Tests.{eqb-true, eq-eqb, ne-eqb, leb-true, le-leb, lt-leb}
 use Rattle.lists.specs.Test.{or-i-l, or-i-r, and-l, and-r, and-i}
 use Rattle.lists.specs.All.{All, any}
 use Rattle.lists.specs.Filter.{filter, some-inj, none-some}
@@ -54,6 +54,11 @@ module _ {A : Type 0} (key : A → ℕ) where
   pub find-low : (i lo : ℕ) (xs : List A) → i < lo → Rises lo xs → find i xs ≡ none
   find-low i lo [] l h = refl
   find-low i lo (x ∷ xs) l h = rw (ne-eqb (key x) i (λ e. omega arith)) (find-low i (suc (key x)) xs (omega arith) (h .1))
+
+  -- no key of a list that rises from above i is up to i
+  pub filter-low : (i lo : ℕ) (xs : List A) → i < lo → Rises lo xs → filter (λ (x : A). leb (key x) i) xs ≡ []
+  filter-low i lo [] l h = refl
+  filter-low i lo (x ∷ xs) l h = rw (lt-leb (key x) i (omega arith)) (filter-low i (suc (key x)) xs (omega arith) (h .1))
 
   pub find-key : (i : ℕ) (xs : List A) (x : A) → find i xs ≡ some x → key x ≡ i
   find-key i [] x e = absurd (none-some e)

@@ -1,0 +1,32 @@
+-- Routing algebras (document 000, section III): everything that judging and cutting ask of a kind of route.
+--     Algebra     routes, policies and demands; of them only that `same` tells whether two routes are equal
+--     Choice      the laws that make the best of several routes one route; the theorems that need them say so
+use mathlib.Core.Path.{_≡_}
+use mathlib.Core.Bool.{Bool, true}
+use mathlib.Core.Logic.{_⊎_}
+
+pub record Algebra : Type 1 where
+  pub Route : Type 0
+  pub Policy : Type 0
+  pub Demand : Type 0
+  -- no route, a value like any other
+  pub no-route : Route
+  -- whether two routes are equal
+  pub same : Route → Route → Bool
+  -- the better of two routes, the paper's ⊕
+  pub best : Route → Route → Route
+  -- the route that a wire with this policy gives for a route, the paper's trans
+  pub carry : Policy → Route → Route
+  -- whether a route meets a demand, the paper's safety property
+  pub meets : Demand → Route → Bool
+  pub same-true : (x y : Route) → same x y ≡ true → x ≡ y
+  pub same-self : (x : Route) → same x x ≡ true
+
+-- the better of two routes is one of the two, whichever stands first and however three are taken, and every route beats no route
+pub record Choice (𝓐 : Algebra) : Type 0 where
+  pub selective : (x y : 𝓐 .Route) → (𝓐 .best x y ≡ x) ⊎ (𝓐 .best x y ≡ y)
+  pub commutative : (x y : 𝓐 .Route) → 𝓐 .best x y ≡ 𝓐 .best y x
+  pub associative : (x y z : 𝓐 .Route) → 𝓐 .best (𝓐 .best x y) z ≡ 𝓐 .best x (𝓐 .best y z)
+  pub none-worst : (x : 𝓐 .Route) → 𝓐 .best x (𝓐 .no-route) ≡ x
+  -- a wire makes no route out of none
+  pub carry-none : (p : 𝓐 .Policy) → 𝓐 .carry p (𝓐 .no-route) ≡ 𝓐 .no-route

@@ -1,0 +1,43 @@
+-- The numbers given back: an answer, or a refusal by number and place.
+--     Answer, refuse, and-then     answers, the rows of a table of refusals, one call upon another's answer
+--     lowest                       the lowest id of an own box that meets a test
+--     Entered, unentered           every own box has an entry; refusal 17, which judging and cutting share
+use mathlib.Core.Path.{_≡_}
+use mathlib.Core.Bool.{Bool, true, false, cond, not}
+use mathlib.Core.Option.{Option, none, some}
+use mathlib.Core.List.{List, [], _∷_}
+use Prim.Native.Nat.{ℕ}
+use Rattle.lists.specs.All.{All}
+use Rattle.networks.specs.Network.{Own, Network, own-boxes}
+
+pub data Answer (A : Type 0) : Type 0 where
+  given : A → Answer A
+  refused : (number place : ℕ) → Answer A
+
+-- A row of the table: the refusal where it has a place, otherwise the rows below.
+abbrev pub refuse : {A : Type 0} → ℕ → Option ℕ → Answer A → Answer A
+refuse number none below = below
+refuse number (some place) below = refused number place
+
+-- A call on what another call gave; a refusal stays as it is.
+abbrev pub and-then : {A B : Type 0} → Answer A → (A → Answer B) → Answer B
+and-then (given x) f = f x
+and-then (refused number place) f = refused number place
+
+-- Ids rise, so the lowest is the first.
+abbrev pub lowest : {R D : Type 0} → (Own R D → Bool) → List (Own R D) → Option ℕ
+lowest test [] = none
+lowest test (b ∷ bs) = cond (test b) (some (b .id)) (lowest test bs)
+
+abbrev pub is-some : {A : Type 0} → Option A → Bool
+is-some none = false
+is-some (some x) = true
+
+module _ {R P D : Type 0} (N : Network R P D) (entry : ℕ → Option R) where
+  -- Every own box has an entry; `entry` is the notes of a sheet, or the routes of a list.
+  abbrev pub Entered : Type 0
+  Entered = All (λ (b : Own R D). is-some (entry (b .id)) ≡ true) (own-boxes N)
+
+  -- the place of refusal 17: the lowest own box without an entry
+  abbrev pub unentered : Option ℕ
+  unentered = lowest (λ (b : Own R D). not (is-some (entry (b .id)))) (own-boxes N)
