@@ -6,3 +6,5 @@ pub mod Edge
 pub mod Numbers
 pub mod Network
 pub mod Entries
+pub mod Cases
+pub mod Fine
