@@ -1,16 +1,16 @@
 -- The first of n places at which a test fails, or n where it fails at none: the one definition behind every "lowest place".
 --     first-none, first-here     its value, from what is known of the places
 --     first-all, first-fails     what its value tells
---     every                      whether it fails nowhere
+--     every                      whether it fails nowhere, and where it does not
 --     Passed, passed-..          what a loop knows at place i, and its two exits
 use Prim.Native.Nat.{ℕ, zero, suc, _+_, _<_, _≤_, zero-le, suc-le-suc}
 use native.Mathlib.Nat.{le-of-suc-le-suc, not-suc-le-zero}
 use native.Mathlib.Omega.{arith}
 use mathlib.Core.Bool.{Bool, true, false, cond}
-use mathlib.Core.Path.{_≡_, refl, ap, sym}
+use mathlib.Core.Path.{_≡_, refl, ap, sym, _∙_}
 use lib.Dec.{eqb}
 use borrow.Author.Count.{below-more}
-use borrow.Author.Tests.{eq-eqb, ne-eqb, eqb-true}
+use borrow.Author.Tests.{eq-eqb, ne-eqb, eqb-true, eqb-false}
 
 unfoldable pub firstBad : (ℕ → Bool) → ℕ → ℕ
 firstBad ok zero = 0
@@ -76,6 +76,22 @@ every-no ok n i l h e = let f : firstBad ok n ≡ i = first-here ok n i l h e in
 pub every-all : (ok : ℕ → Bool) (n : ℕ) → every ok n ≡ true → (k : ℕ) → k < n → ok k ≡ true
 unfolding every
 every-all ok n e k l = let f : firstBad ok n ≡ n = eqb-true _ _ e in first-all ok n k (omega arith)
+
+-- where they do not all pass, one fails
+pub every-some : (ok : ℕ → Bool) (n : ℕ) → every ok n ≡ false → (i : ℕ) × ((i < n) × (ok i ≡ false))
+unfolding every
+every-some ok n e =
+    let d : firstBad ok n ≡ n → ⊥ = eqb-false (firstBad ok n) n e in
+    let m : firstBad ok n ≤ n = first-le ok n in
+    let l : firstBad ok n < n = omega arith in
+    (firstBad ok n, (l, first-fails ok n l))
+
+pub some-every : (ok : ℕ → Bool) (n i : ℕ) → i < n → ok i ≡ false → every ok n ≡ false
+some-every ok n i l e = go (every ok n) refl
+  where
+    go : (t : Bool) → every ok n ≡ t → t ≡ false
+    go true h = sym (every-all ok n h i l) ∙ e
+    go false h = refl
 
 -- what a loop knows at place i: every place before it passes. Shut, so that `search` finds it by its name.
 unfoldable pub Passed : (ℕ → Bool) → ℕ → Type 0

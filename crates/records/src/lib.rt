@@ -1,0 +1,40 @@
+// Records: every byte string is a network, a sheet or a route list, or is refused by number and place.
+ghost use mathlib.Core.Path.{_≡_};
+ghost use Rattle.records.specs.Network.{networkRefusal};
+ghost use Rattle.records.specs.Numbers.{checkNumbers};
+
+// What the version of a record decides: the bytes of a route, and the greatest number of nodes and of entries.
+pub struct Form {
+    pub route: usize,
+    pub most: usize,
+}
+
+// Why a call is refused, with the place that document 01's table gives where it is no constant.
+pub enum Refusal {
+    Short(usize),
+    Version,
+    Counts,
+    Length,
+    Behind(usize),
+    IllPolicy(usize),
+    IllNode(usize),
+    NoOwn(usize),
+    IllEdge(usize),
+    NoEdgeOut(usize),
+    EntriesShort(usize),
+    EntriesVersion,
+    EntriesCount,
+    EntriesLength,
+    EntriesBehind(usize),
+    IllEntry(usize),
+    NoEntry(u16),
+    NoFragment(u8),
+    NoteDiffers(u16),
+    NoRoom(usize),
+}
+
+// What a check of a record finds.
+pub enum Check {
+    Fine,
+    Refused(Refusal),
+}
