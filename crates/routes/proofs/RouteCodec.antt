@@ -8,9 +8,9 @@ use native.Mathlib.Nat.{add-zero}
 use native.Mathlib.Omega.{arith}
 use lib.Dec.{eqb}
 use lib.ListN.{getD, replicate, replicate-append-replicate}
-use borrow.Author.Tests.{eqb-true}
+use borrow.Author.Tests.{eqb-true, eq-eqb}
 use Rattle.lists.specs.Codec.{Codec, byte, blank, pair, named, restated, Bytes}
-use Rattle.lists.specs.First.{every-all}
+use Rattle.lists.specs.First.{every-all, every-yes}
 use Rattle.lists.specs.Test.{and-l, and-r}
 use Rattle.numbers.specs.BigEndian.{u16At, u16Bytes}
 use Rattle.numbers.proofs.Codecs.{u16, u16-below}
@@ -19,6 +19,21 @@ use Rattle.routes.proofs.Ordered.{fields-ext}
 use Rattle.routes.specs.declared.Fields.{Fields}
 use Rattle.routes.specs.declared.Route.{Route}
 use Rattle.routes.specs.declared.Route.the-variants.{None, Held}
+
+-- a run of zeros: its bytes, and the numbers in it
+pub zeros-all : (b : List ℕ) (o n : ℕ) → zeros b o n ≡ true → (k : ℕ) → k < n → getD b (o + k) 0 ≡ 0
+unfolding zeros
+zeros-all b o n e k l = eqb-true _ _ (every-all _ n e k l)
+
+pub all-zeros : (b : List ℕ) (o n : ℕ) → ((k : ℕ) → k < n → getD b (o + k) 0 ≡ 0) → zeros b o n ≡ true
+unfolding zeros
+all-zeros b o n h = every-yes _ n (λ k l. eq-eqb _ _ (h k l))
+
+pub zeros-number : (b : List ℕ) (o n : ℕ) → zeros b o n ≡ true → (j : ℕ) → j + 1 < n → u16At b (o + j) ≡ 0
+unfolding u16At
+zeros-number b o n e j l =
+    let next : o + j + 1 ≡ o + (j + 1) = omega arith in
+    rw (zeros-all b o n e j (omega arith), next, zeros-all b o n e (j + 1) l)
 
 -- the fields: four numbers of two bytes
 abbrev pub FieldsFit : Fields → Type 0
@@ -91,10 +106,6 @@ module _ (w : ℕ) where
     abbrev pub RouteFormed : List ℕ → ℕ → Type 0
     RouteFormed b o = Bytes b × (routeFormed w b o ≡ true)
 
-    zeros-all : (b : List ℕ) (o n : ℕ) → zeros b o n ≡ true → (k : ℕ) → k < n → getD b (o + k) 0 ≡ 0
-    unfolding zeros
-    zeros-all b o n e k l = eqb-true _ _ (every-all _ n e k l)
-
     pub route-gap : (b : List ℕ) (o : ℕ) → routeFormed w b o ≡ true → (k : ℕ) → k < w - 9 → getD b (o + 1 + k) 0 ≡ 0
     unfolding routeFormed
     route-gap b o = go (eqb (getD b o 0) 0)
@@ -108,19 +119,13 @@ module _ (w : ℕ) where
 
     -- the fields behind a zero present byte are zeros
     no-fields : (b : List ℕ) (o : ℕ) → zeros b (o + 1) (w - 1) ≡ true → fieldsAt b (o + 1 + (w - 9)) ≡ noFields
-    unfolding fieldsAt u16At
-    no-fields b o e =
-        fields-ext _ _ (rw add-zero at (number 0 (omega arith))) (number 2 (omega arith)) (number 4 (omega arith)) (number 6 (omega arith))
+    unfolding fieldsAt
+    no-fields b o e = fields-ext _ _ (rw add-zero at (number 0 (omega arith))) (number 2 (omega arith)) (number 4 (omega arith)) (number 6 (omega arith))
       where
-        zero : (j : ℕ) → j < 8 → getD b (o + 1 + (w - 9) + j) 0 ≡ 0
-        zero j l =
-            let inside : o + 1 + (w - 9) + j ≡ o + 1 + (w - 9 + j) = omega arith in
-            rw inside (zeros-all b (o + 1) (w - 1) e (w - 9 + j) (omega arith))
-
         number : (j : ℕ) → j + 1 < 8 → u16At b (o + 1 + (w - 9) + j) ≡ 0
         number j l =
-            let next : o + 1 + (w - 9) + j + 1 ≡ o + 1 + (w - 9) + (j + 1) = omega arith in
-            rw (zero j (omega arith), next, zero (j + 1) l)
+            let inside : o + 1 + (w - 9) + j ≡ o + 1 + (w - 9 + j) = omega arith in
+            rw inside (zeros-number b (o + 1) (w - 1) e (w - 9 + j) (omega arith))
 
     pub route-here : (b : List ℕ) (o : ℕ) → RouteFormed b o → ofRoute (toRoute (parts .value b o)) ≡ parts .value b o
     unfolding routeFormed
@@ -159,3 +164,12 @@ route-read-fits w b o z = go (eqb (getD b o 0) 0)
     go : (t : Bool) → RouteFits (cond t None (Held (fieldsAt b (o + 1 + (w - 9)))))
     go true = tt
     go false = (below _, below _, below _, below _)
+
+-- w zeros are a route: none
+pub zeros-route : (w : ℕ) (b : List ℕ) (o : ℕ) → 9 ≤ w → zeros b o w ≡ true → (routeFormed w b o ≡ true) × (routeAt w b o ≡ None)
+unfolding routeFormed routeAt
+zeros-route w b o enough e =
+    let first : getD b o 0 ≡ 0 = rw add-zero at (zeros-all b o w e 0 (omega arith)) in
+    let rest : zeros b (o + 1) (w - 1) ≡ true =
+        all-zeros b (o + 1) (w - 1) (λ k l. let next : o + 1 + k ≡ o + (1 + k) = omega arith in rw next (zeros-all b o w e (1 + k) (omega arith))) in
+    (rw (first, rest), rw first)

@@ -1,0 +1,4 @@
+-- Each part of a record written and read back, and read and written back.
+pub mod DemandCodec
+pub mod BoxCodec
+pub mod RowCodecs
