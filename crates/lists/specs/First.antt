@@ -6,7 +6,7 @@
 use Prim.Native.Nat.{ℕ, zero, suc, _+_, _<_, _≤_, zero-le, suc-le-suc}
 use native.Mathlib.Nat.{le-of-suc-le-suc, not-suc-le-zero}
 use native.Mathlib.Omega.{arith}
-use mathlib.Core.Bool.{Bool, true, false, cond}
+use mathlib.Core.Bool.{Bool, true, false, cond, _&&_}
 use mathlib.Core.Path.{_≡_, refl, ap, sym, _∙_}
 use lib.Dec.{eqb}
 use borrow.Author.Count.{below-more}
@@ -119,3 +119,23 @@ pub first-ext : (f g : ℕ → Bool) (n : ℕ) → ((k : ℕ) → k < n → f k 
 unfolding firstBad
 first-ext f g zero h = refl
 first-ext f g (suc n) h = rw (h 0 (suc-le-suc zero-le), first-ext (λ k. f (suc k)) (λ k. g (suc k)) n (λ k l. h (suc k) (suc-le-suc l)))
+
+-- the same from the front
+eqb-suc : (a b : ℕ) → eqb (suc a) (suc b) ≡ eqb a b
+eqb-suc a b = go (eqb a b) refl
+  where
+    go : (t : Bool) → eqb a b ≡ t → eqb (suc a) (suc b) ≡ t
+    go true e = eq-eqb (suc a) (suc b) (ap suc (eqb-true a b e))
+    go false e = ne-eqb (suc a) (suc b) (λ q. eqb-false a b e (omega arith))
+
+pub every-front : (ok : ℕ → Bool) (n : ℕ) → every ok (suc n) ≡ ok 0 && every (λ k. ok (suc k)) n
+unfolding every firstBad
+every-front ok n = go (ok 0)
+  where
+    go : (t : Bool) → eqb (cond t (suc (firstBad (λ k. ok (suc k)) n)) 0) (suc n) ≡ t && eqb (firstBad (λ k. ok (suc k)) n) n
+    go true = eqb-suc (firstBad (λ k. ok (suc k)) n) n
+    go false = ne-eqb 0 (suc n) (λ q. omega arith)
+
+pub every-ext : (f g : ℕ → Bool) (n : ℕ) → ((k : ℕ) → k < n → f k ≡ g k) → every f n ≡ every g n
+unfolding every
+every-ext f g n h = ap (λ (m : ℕ). eqb m n) (first-ext f g n h)

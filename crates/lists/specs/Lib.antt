@@ -7,6 +7,7 @@ pub mod First
 pub mod Rising
 pub mod Stride
 pub mod Rows
+pub mod Table
 pub mod Codec
 pub mod Laid
 pub mod Stores

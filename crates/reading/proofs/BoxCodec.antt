@@ -9,6 +9,7 @@ use native.Mathlib.Omega.{arith}
 use lib.Dec.{eqb}
 use lib.ListN.{getD, length}
 use borrow.Author.Tests.{eqb-true, eqb-false}
+use Rattle.lists.specs.Filter.{none-some}
 use Rattle.lists.specs.Codec.{Codec, byte, pair, named, restated, Bytes}
 use Rattle.lists.specs.Test.{and-l, and-r}
 use Rattle.numbers.specs.BigEndian.{u16At, u16Bytes}
@@ -84,6 +85,15 @@ module _ (w : ℕ) (enough : 9 ≤ w) where
         demanded = rw (five, six) at demanded;
       }
 
+  pub tests-node : (b : List ℕ) (o : ℕ) → Node b o → nodeFormed w b o ≡ true
+  unfolding nodeFormed promiseFormed demandFormed promiseTest demandTest
+  tests-node b o n =
+      let three : o + 3 ≡ o + 2 + 1 = omega arith in
+      let four : o + 4 + w ≡ o + 2 + 1 + w + 1 = omega arith in
+      let five : o + 4 + w + w ≡ o + 2 + 1 + w + (1 + w) = omega arith in
+      let six : o + 5 + w + w ≡ o + 2 + 1 + w + (1 + w) + 1 = omega arith in
+      rw (n .kind, five, six, n .demanded, three, four, n .routed, n .promised)
+
   pub box-formed : (b : List ℕ) (o : ℕ) → BoxFormed b o → five .Formed b o
   box-formed b o h =
       let z = h .0 in
@@ -124,8 +134,39 @@ module _ (w : ℕ) (enough : 9 ≤ w) where
           let x = input-plain b o (node-tests b o (h .1) .kind) q in
           λ i. (v .0, (x .kind i, (v .1 .1 .0, (x .promise i, x .demand i))))
 
+  -- a flag and a demand by what they say
+  no-promise : (b : List ℕ) (o : ℕ) → promiseAt w b o ≡ none → eqb (getD b o 0) 0 ≡ true
+  unfolding promiseAt
+  no-promise b o = go (eqb (getD b o 0) 0)
+    where
+      go : (t : Bool) → cond t none (some (routeAt w b (o + 1))) ≡ none → t ≡ true
+      go true e = refl
+      go false e = absurd (none-some (sym e))
+
+  no-demand : (b : List ℕ) (o : ℕ) → demandAt b o ≡ Nothing → eqb (getD b o 0) 0 ≡ true
+  unfolding demandAt
+  no-demand b o = go (eqb (getD b o 0) 0) (eqb (getD b o 0) 1)
+    where
+      go : (s t : Bool) → cond s Nothing (cond t (Hold (u16At b (o + 1)) (u16At b (o + 3))) HoldNone) ≡ Nothing → s ≡ true
+      go true t e = refl
+      go false true e = absurd (let z : _≡_ {A = ℕ} 0 1 = cc in omega arith)
+      go false false e = absurd (let z : _≡_ {A = ℕ} 0 1 = cc in omega arith)
+
+  -- bytes that hold a box are formed
+  pub box-made : (b : List ℕ) (o : ℕ) (v : Box Route Demand) → BoxFits v → Bytes b → five .Formed b o → five .value b o ≡ ofBox v → BoxFormed b o
+  unfolding kindFormed
+  box-made b o v h z formed e = (z, tests-node b o (record { kind = kind v e; routed = formed .1 .1 .0 .1; promised = formed .1 .1 .1 .0 .1; demanded = formed .1 .1 .1 .1 .1 }))
+    where
+      kind : (v : Box Route Demand) → five .value b o ≡ ofBox v → kindFormed w b o ≡ true
+      kind (own v) e = let first : getD b (o + 2) 0 ≡ 0 = ap (λ (x : Five). x .1 .0) e in rw first
+      kind (input v) e =
+          let first : getD b (o + 2) 0 ≡ 1 = ap (λ (x : Five). x .1 .0) e in
+          let three : o + 3 + w ≡ o + 2 + 1 + w = omega arith in
+          let five : o + 4 + w + w ≡ o + 2 + 1 + w + (1 + w) = omega arith in
+          rw (first, three, five, no-promise b (o + 2 + 1 + w) (ap (λ (x : Five). x .1 .1 .1 .0) e), no-demand b (o + 2 + 1 + w + (1 + w)) (ap (λ (x : Five). x .1 .1 .1 .1) e))
+
   abbrev pub box-parts : Codec (Box Route Demand)
-  box-parts = named five toBox ofBox BoxFits BoxFormed box-fits box-there box-formed box-here
+  box-parts = named five toBox ofBox BoxFits BoxFormed box-fits box-there box-formed box-here box-made
 
   pub box-bytes : (v : Box Route Demand) → boxBytes w v ≡ box-parts .bytes v
   unfolding boxBytes

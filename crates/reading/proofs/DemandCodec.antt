@@ -3,7 +3,7 @@ use mathlib.Core.Path.{_≡_, refl, sym, ap, ap₂, _∙_}
 use mathlib.Core.Bool.{Bool, true, false, cond, _&&_, _||_, false≢true}
 use mathlib.Core.List.{List, [], _∷_, _++_}
 use mathlib.Core.Option.{Option, none, some}
-use Prim.Native.Nat.{ℕ, _+_, _≤_, _<_}
+use Prim.Native.Nat.{ℕ, zero, suc, _+_, _≤_, _<_}
 use native.Mathlib.Nat.{add-zero}
 use native.Mathlib.Omega.{arith}
 use lib.Dec.{eqb}
@@ -14,7 +14,7 @@ use Rattle.lists.specs.Test.{and-l, and-r}
 use Rattle.numbers.specs.BigEndian.{u16At, u16Bytes}
 use Rattle.numbers.proofs.Codecs.{u16, u16-below}
 use Rattle.routes.specs.Form.{zeros, routeAt, routeBytes, routeFormed}
-use Rattle.routes.proofs.RouteCodec.{route, RouteFits, route-read-fits, zeros-number, zeros-route}
+use Rattle.routes.proofs.RouteCodec.{route, RouteFits, route-read-fits, all-zeros, zero-bytes, zeros-number, zeros-route, none-zeros}
 use Rattle.routes.specs.declared.Demand.{Demand}
 use Rattle.routes.specs.declared.Demand.the-variants.{Nothing, Hold, HoldNone}
 use Rattle.routes.specs.declared.Route.{Route}
@@ -85,8 +85,37 @@ demand-here b o h = go (eqb (getD b o 0) 0) refl (eqb (getD b o 0) 1) refl (h .1
         let two = eqb-true (getD b o 0) 2 (and-l (eqb (getD b o 0) 2) (zeros b (o + 1) 4) e) in
         λ i. (sym two i, (z .0 i, z .1 i))
 
+four-zeros : (b : List ℕ) (o : ℕ) → u16At b o ≡ 0 → u16At b (o + 2) ≡ 0 → zeros b o 4 ≡ true
+four-zeros b o p q = all-zeros b o 4 at
+  where
+    low : (getD b o 0 ≡ 0) × (getD b (o + 1) 0 ≡ 0)
+    low = zero-bytes b o p
+
+    high : (getD b (o + 2) 0 ≡ 0) × (getD b (o + 2 + 1) 0 ≡ 0)
+    high = zero-bytes b (o + 2) q
+
+    at : (k : ℕ) → k < 4 → getD b (o + k) 0 ≡ 0
+    at zero l = rw add-zero (low .0)
+    at (suc zero) l = low .1
+    at (suc (suc zero)) l = high .0
+    at (suc (suc (suc zero))) l = let next : o + 3 ≡ o + 2 + 1 = omega arith in rw next (high .1)
+    at (suc (suc (suc (suc k)))) l = absurd (omega arith)
+
+-- bytes that hold a demand are formed
+pub demand-made : (b : List ℕ) (o : ℕ) (d : Demand) → DemandFits d → Bytes b → three .Formed b o → three .value b o ≡ ofDemand d → DemandFormed b o
+unfolding demandTest
+demand-made b o Nothing h z formed e =
+    let first : getD b o 0 ≡ 0 = ap (λ (x : Three). x .0) e in
+    (z, rw (first, four-zeros b (o + 1) (ap (λ (x : Three). x .1 .0) e) (ap (λ (x : Three). x .1 .1) e)))
+demand-made b o (Hold ceiling tags) h z formed e =
+    let first : getD b o 0 ≡ 1 = ap (λ (x : Three). x .0) e in
+    (z, rw first)
+demand-made b o HoldNone h z formed e =
+    let first : getD b o 0 ≡ 2 = ap (λ (x : Three). x .0) e in
+    (z, rw (first, four-zeros b (o + 1) (ap (λ (x : Three). x .1 .0) e) (ap (λ (x : Three). x .1 .1) e)))
+
 abbrev pub demand-parts : Codec Demand
-demand-parts = named three toDemand ofDemand DemandFits DemandFormed demand-fits demand-there demand-formed demand-here
+demand-parts = named three toDemand ofDemand DemandFits DemandFormed demand-fits demand-there demand-formed demand-here demand-made
 
 pub demand-bytes : (d : Demand) → demandBytes d ≡ demand-parts .bytes d
 unfolding demandBytes u16Bytes
@@ -161,8 +190,18 @@ module _ (w : ℕ) (enough : 9 ≤ w) where
       go true q e = λ i. (sym (eqb-true (getD b o 0) 0 q) i, sym ((zeros-route w b (o + 1) enough e) .1) i)
       go false q e = λ i. (sym (eqb-true (getD b o 0) 1 (and-l (eqb (getD b o 0) 1) (routeFormed w b (o + 1)) e)) i, routeAt w b (o + 1))
 
+  -- bytes that hold a promise are formed
+  pub promise-made : (b : List ℕ) (o : ℕ) (p : Option Route) → PromiseFits p → Bytes b → flagged .Formed b o → flagged .value b o ≡ ofPromise p → PromiseFormed b o
+  unfolding promiseTest
+  promise-made b o none h z formed e =
+      let first : getD b o 0 ≡ 0 = ap (λ (x : ℕ × Route). x .0) e in
+      (z, rw (first, none-zeros w b (o + 1) enough (formed .1 .1) (ap (λ (x : ℕ × Route). x .1) e)))
+  promise-made b o (some r) h z formed e =
+      let first : getD b o 0 ≡ 1 = ap (λ (x : ℕ × Route). x .0) e in
+      (z, rw (first, formed .1 .1))
+
   abbrev pub promise-parts : Codec (Option Route)
-  promise-parts = named flagged toPromise ofPromise PromiseFits PromiseFormed promise-fits promise-there promise-formed promise-here
+  promise-parts = named flagged toPromise ofPromise PromiseFits PromiseFormed promise-fits promise-there promise-formed promise-here promise-made
 
   pub promise-bytes : (p : Option Route) → promiseBytes w p ≡ promise-parts .bytes p
   unfolding promiseBytes

@@ -29,6 +29,7 @@ wire-parts = named (pair u16 (pair u16 byte))
     (λ e h. refl)
     (λ b o z. ((z o, z (o + 1)), ((z (o + 2), z (o + 2 + 1)), tt)))
     (λ b o z. refl)
+    (λ b o e h z formed q. z)
 
 pub wire-bytes : (e : Wire) → wireBytes e ≡ wire-parts .bytes e
 unfolding wireBytes
@@ -45,11 +46,14 @@ pub wire-read-fits : (b : List ℕ) (o : ℕ) → Bytes b → WireFits (wireAt b
 unfolding wireAt
 wire-read-fits b o z = (u16-below b o (z o, z (o + 1)), u16-below b (o + 2) (z (o + 2), z (o + 2 + 1)), z (o + 4))
 
+abbrev pub SheetEntryFits : SheetEntry Route → Type 0
+SheetEntryFits e = (e .id < 65536) × (e .fragment < 256) × RouteFits (e .note)
+
+abbrev pub ListEntryFits : ListEntry Route → Type 0
+ListEntryFits e = (e .id < 65536) × RouteFits (e .route)
+
 module _ (w : ℕ) (enough : 9 ≤ w) where
   -- entries of a sheet
-  abbrev pub SheetEntryFits : SheetEntry Route → Type 0
-  SheetEntryFits e = (e .id < 65536) × (e .fragment < 256) × RouteFits (e .note)
-
   abbrev pub sheet-entry-parts : Codec (SheetEntry Route)
   sheet-entry-parts = named (pair u16 (pair byte (route w enough)))
       (λ (x : ℕ × (ℕ × Route)). record { id = x .0; fragment = x .1 .0; note = x .1 .1 })
@@ -60,6 +64,7 @@ module _ (w : ℕ) (enough : 9 ≤ w) where
       (λ e h. refl)
       (λ b o h. ((h .0 o, h .0 (o + 1)), (tt, h)))
       (λ b o h. refl)
+      (λ b o e h z formed q. formed .1 .1)
 
   pub sheet-entry-bytes : (e : SheetEntry Route) → sheetEntryBytes w e ≡ sheet-entry-parts .bytes e
   unfolding sheetEntryBytes
@@ -73,9 +78,6 @@ module _ (w : ℕ) (enough : 9 ≤ w) where
   sheet-entry = restated sheet-entry-parts (3 + w) (sheetEntryBytes w) (sheetEntryAt w) (omega arith) sheet-entry-bytes sheet-entry-value
 
   -- entries of a route list
-  abbrev pub ListEntryFits : ListEntry Route → Type 0
-  ListEntryFits e = (e .id < 65536) × RouteFits (e .route)
-
   abbrev pub list-entry-parts : Codec (ListEntry Route)
   list-entry-parts = named (pair u16 (route w enough))
       (λ (x : ℕ × Route). record { id = x .0; route = x .1 })
@@ -86,6 +88,7 @@ module _ (w : ℕ) (enough : 9 ≤ w) where
       (λ e h. refl)
       (λ b o h. ((h .0 o, h .0 (o + 1)), h))
       (λ b o h. refl)
+      (λ b o e h z formed q. formed .1)
 
   pub list-entry-bytes : (e : ListEntry Route) → listEntryBytes w e ≡ list-entry-parts .bytes e
   unfolding listEntryBytes
@@ -98,10 +101,10 @@ module _ (w : ℕ) (enough : 9 ≤ w) where
   abbrev pub list-entry : Codec (ListEntry Route)
   list-entry = restated list-entry-parts (2 + w) (listEntryBytes w) (listEntryAt w) refl list-entry-bytes list-entry-value
 
-pub sheet-entry-read-fits : (w : ℕ) (enough : 9 ≤ w) (b : List ℕ) (o : ℕ) → Bytes b → SheetEntryFits w enough (sheetEntryAt w b o)
+pub sheet-entry-read-fits : (w : ℕ) (b : List ℕ) (o : ℕ) → Bytes b → SheetEntryFits (sheetEntryAt w b o)
 unfolding sheetEntryAt
-sheet-entry-read-fits w enough b o z = (u16-below b o (z o, z (o + 1)), z (o + 2), route-read-fits w b (o + 3) z)
+sheet-entry-read-fits w b o z = (u16-below b o (z o, z (o + 1)), z (o + 2), route-read-fits w b (o + 3) z)
 
-pub list-entry-read-fits : (w : ℕ) (enough : 9 ≤ w) (b : List ℕ) (o : ℕ) → Bytes b → ListEntryFits w enough (listEntryAt w b o)
+pub list-entry-read-fits : (w : ℕ) (b : List ℕ) (o : ℕ) → Bytes b → ListEntryFits (listEntryAt w b o)
 unfolding listEntryAt
-list-entry-read-fits w enough b o z = (u16-below b o (z o, z (o + 1)), route-read-fits w b (o + 2) z)
+list-entry-read-fits w b o z = (u16-below b o (z o, z (o + 1)), route-read-fits w b (o + 2) z)
