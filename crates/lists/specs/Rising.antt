@@ -8,10 +8,10 @@ use native.Mathlib.Numerals.{add-one}
 use native.Mathlib.Omega.{arith}
 use mathlib.Core.Bool.{not}
 use mathlib.Core.Logic.{⊎-elim}
-use mathlib.Core.Path.{_≡_, refl, sym}
+use mathlib.Core.Path.{_≡_, refl, ap, sym}
 use lib.Dec.{eqb}
 use borrow.Author.Tests.{eq-eqb, ne-eqb}
-use Rattle.lists.specs.First.{firstBad, first-here, first-none}
+use Rattle.lists.specs.First.{firstBad, first-here, first-none, first-ext}
 use Rattle.lists.specs.Test.{le-or-lt}
 
 -- the least id that may stand at place k: above the one before
@@ -26,6 +26,12 @@ least-start ids = refl
 pub least-next : (ids : ℕ → ℕ) (i : ℕ) → ids i + 1 ≡ least ids (i + 1)
 unfolding least
 least-next ids i = rw (add-one i) (omega arith)
+
+-- ids that agree everywhere have the same least
+pub least-ext : (ids other : ℕ → ℕ) → ((k : ℕ) → ids k ≡ other k) → (i : ℕ) → least ids i ≤ ids i → least other i ≤ other i
+unfolding least
+least-ext ids other e zero h = omega (arith, e 0)
+least-ext ids other e (suc i) h = omega (arith, e i, e (suc i))
 
 unfoldable pub Rising : (ℕ → ℕ) → ℕ → Type 0
 Rising ids n = (p q : ℕ) → p < q → q < n → ids p < ids q
@@ -46,6 +52,11 @@ least-rising ids n h = rising ids n (λ k l. let z = rw add-one at (h (k + 1) l)
 -- the first place at which x stands, or n
 unfoldable pub place : (ℕ → ℕ) → ℕ → ℕ → ℕ
 place ids x n = firstBad (λ k. not (eqb (ids k) x)) n
+
+-- ids that agree below n have the same places
+pub place-ext : (ids other : ℕ → ℕ) (x n : ℕ) → ((k : ℕ) → k < n → ids k ≡ other k) → place ids x n ≡ place other x n
+unfolding place
+place-ext ids other x n h = first-ext _ _ n (λ k l. ap (λ (i : ℕ). not (eqb i x)) (h k l))
 
 -- what bisection knows: x stands neither below lo nor from hi on
 pub record Between (ids : ℕ → ℕ) (n x lo hi : ℕ) : Type 0 where

@@ -61,10 +61,6 @@ demand-there HoldNone h = refl
 pub demand-formed : (b : List ℕ) (o : ℕ) → DemandFormed b o → three .Formed b o
 demand-formed b o h = let z = h .0 in (tt, ((z (o + 1), z (o + 1 + 1)), (z (o + 1 + 2), z (o + 1 + 2 + 1))))
 
-or-second : (s t : Bool) → s ≡ false → s || t ≡ true → t ≡ true
-or-second true t e h = absurd (false≢true (sym e))
-or-second false t e h = h
-
 pub demand-here : (b : List ℕ) (o : ℕ) → DemandFormed b o → ofDemand (toDemand (three .value b o)) ≡ three .value b o
 unfolding demandTest
 demand-here b o h = go (eqb (getD b o 0) 0) refl (eqb (getD b o 0) 1) refl (h .1)

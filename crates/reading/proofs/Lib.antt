@@ -2,3 +2,9 @@
 pub mod DemandCodec
 pub mod BoxCodec
 pub mod RowCodecs
+-- Whole records.
+pub mod Joins
+pub mod Said
+pub mod NetworkBytes
+pub mod ReadSound
+pub mod WrittenFine

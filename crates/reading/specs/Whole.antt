@@ -9,6 +9,7 @@ use Rattle.routes.specs.declared.Demand.{Demand}
 use Rattle.routes.specs.declared.Policy.{Policy}
 use Rattle.routes.specs.declared.Route.{Route}
 use Rattle.networks.specs.Network.{Network}
+use Rattle.networks.specs.Sound.{Bounds}
 use Rattle.networks.specs.Sheets.{Sheet, RouteList}
 use Rattle.records.specs.Form.{nodeWidth, entryWidth, listLead, sheetLead}
 use Rattle.records.specs.Layout.{nodeCount, edgeCount, policyCount, nodePart, edgePart}
@@ -25,6 +26,10 @@ HouseSheet = Sheet Route
 
 abbrev pub HouseList : Type 0
 HouseList = RouteList Route
+
+-- the greatest counts of a network
+abbrev pub bounds : Form → Bounds
+bounds f = record { boxes = f .most; wires = 4096; policies = 64 }
 
 -- a record of version 1: the length of what follows it, the version, and the rest
 abbrev pub recordOf : List ℕ → List ℕ
