@@ -65,8 +65,8 @@ module _ {A : Type 0} (key : A → ℕ) (value : ℕ → A) (width : ℕ) where
   rises-from lo offset (suc n) h g = (
     let first = h (omega arith) in rw (start offset) first,
     rises-from (suc (key (value offset))) (offset + width) n
-    (λ l. rw (start offset, shift offset 0) (g 0 (omega arith)))
-    (λ i l. rw (shift offset i, shift offset (suc i)) (g (suc i) (omega arith))),
+        (λ l. rw (start offset, shift offset 0) (g 0 (omega arith)))
+        (λ i l. rw (shift offset i, shift offset (suc i)) (g (suc i) (omega arith))),
   )
 
   from-rises : (lo offset n : ℕ) → Rises key lo (rows value width offset n) → (0 < n → lo ≤ keys offset 0) × ((i : ℕ) → suc i < n → keys offset i < keys offset (suc i))

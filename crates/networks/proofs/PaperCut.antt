@@ -63,8 +63,7 @@ module _ {R P D : Type 0} (N : Network R P D) (S : Sheet R) (k : ℕ) (formed : 
           → (w .from ≡ u) × (not (eqb (number S (w .to)) (number S (w .from))) ≡ true) × (κ (number S (w .to)) ≡ true)
       parts w e =
           let i = and-r (eqb (w .from) u) (is-cut N S w && W N S k (w .to)) e in
-          let c = and-l (is-cut N S w) (W N S k (w .to)) i in
-          (
+          let c = and-l (is-cut N S w) (W N S k (w .to)) i in (
             eqb-true (w .from) u (and-l (eqb (w .from) u) (is-cut N S w && W N S k (w .to)) e),
             and-r (owns N (w .from)) _ (and-r (owns N (w .to)) _ c),
             and-r (owns N (w .to)) _ (and-r (is-cut N S w) (W N S k (w .to)) i),

@@ -49,15 +49,31 @@ module _ {R P D : Type 0} (N : Network R P D) where
     unfolding sound
     sound-true h = true-all (λ (t : Bool). t) (sound-tests B N) (
       le-leb (length (N .boxes)) (B .boxes) (h .boxes-within),
-      (le-leb (length (N .wires)) (B .wires) (h .wires-within),
-      (le-leb (length (N .policies)) (B .policies) (h .policies-within),
-      (true-all (λ (v : Box R D). ltb (box-id v) ids) (N .boxes) (all-map (N .boxes) (λ v l. lt-ltb (box-id v) ids l) (h .ids-within)),
-      (true-rises box-id 0 (N .boxes) (h .boxes-rise),
-      (lt-ltb 0 (length (own-boxes N)) (h .some-own),
-      (true-rises wire-key 0 (N .wires) (h .wires-rise),
-      (true-all (λ (w : Wire). hold (joined-tests N w)) (N .wires) (all-map (N .wires) (λ w j. (joined-test w) .1 j) (h .wires-joined)),
-      (true-all (λ (a : Input R). sends N (a .id)) (inputs N) (h .inputs-used),
-      tt)))))))),
+      (
+        le-leb (length (N .wires)) (B .wires) (h .wires-within),
+        (
+          le-leb (length (N .policies)) (B .policies) (h .policies-within),
+          (
+            true-all (λ (v : Box R D). ltb (box-id v) ids) (N .boxes) (all-map (N .boxes) (λ v l. lt-ltb (box-id v) ids l) (h .ids-within)),
+            (
+              true-rises box-id 0 (N .boxes) (h .boxes-rise),
+              (
+                lt-ltb 0 (length (own-boxes N)) (h .some-own),
+                (
+                  true-rises wire-key 0 (N .wires) (h .wires-rise),
+                  (
+                    true-all (λ (w : Wire). hold (joined-tests N w)) (N .wires) (all-map (N .wires) (λ w j. (joined-test w) .1 j) (h .wires-joined)),
+                    (
+                      true-all (λ (a : Input R). sends N (a .id)) (inputs N) (h .inputs-used),
+                      tt,
+                    ),
+                  ),
+                ),
+              ),
+            ),
+          ),
+        ),
+      ),
     )
 
     pub sound-test : (sound B N ≡ true) ↔ Sound B N

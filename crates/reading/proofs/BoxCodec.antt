@@ -1,27 +1,27 @@
 -- A box of a network record written and read back, and read and written back: its codec.
 -- The bytes that it takes for formed are those that `nodeFormed` accepts.
-use mathlib.Core.Path.{_≡_, refl, sym, ap, ap₂, _∙_}
-use mathlib.Core.Bool.{Bool, true, false, cond, _&&_, _||_, false≢true}
-use mathlib.Core.List.{List, [], _∷_, _++_}
+use mathlib.Core.Path.{_≡_, refl, sym, ap}
+use mathlib.Core.Bool.{Bool, true, false, cond, _&&_, _||_}
+use mathlib.Core.List.{List}
 use mathlib.Core.Option.{Option, none, some}
 use Prim.Native.Nat.{ℕ, _+_, _≤_, _<_}
 use native.Mathlib.Omega.{arith}
 use lib.Dec.{eqb}
-use lib.ListN.{getD, length}
-use borrow.Author.Tests.{eqb-true, eqb-false}
+use lib.ListN.{getD}
+use borrow.Author.Tests.{eqb-true}
 use Rattle.lists.specs.Filter.{none-some}
 use Rattle.lists.specs.Codec.{Codec, byte, pair, named, restated, Bytes}
 use Rattle.lists.specs.Test.{and-l, and-r}
-use Rattle.numbers.specs.BigEndian.{u16At, u16Bytes}
+use Rattle.numbers.specs.BigEndian.{u16At}
 use Rattle.numbers.proofs.Codecs.{u16, u16-below}
-use Rattle.routes.specs.Form.{zeros, routeAt, routeBytes, routeFormed}
+use Rattle.routes.specs.Form.{zeros, routeAt, routeFormed}
 use Rattle.routes.proofs.RouteCodec.{route, RouteFits, route-read-fits}
 use Rattle.routes.specs.declared.Demand.{Demand}
 use Rattle.routes.specs.declared.Demand.the-variants.{Nothing, Hold, HoldNone}
 use Rattle.routes.specs.declared.Route.{Route}
-use Rattle.networks.specs.Network.{Own, Input, Box, own, input}
-use Rattle.records.specs.Node.{kindAt, promiseFlagAt, demandAt as demandByteAt, kindFormed, promiseFormed, demandFormed, nodeFormed}
-use Rattle.reading.specs.Parts.{demandAt, demandBytes, promiseAt, promiseBytes, boxAt, boxBytes}
+use Rattle.networks.specs.Network.{Box, own, input}
+use Rattle.records.specs.Node.{kindFormed, promiseFormed, demandFormed, nodeFormed}
+use Rattle.reading.specs.Parts.{demandAt, promiseAt, boxAt, boxBytes}
 use Rattle.reading.proofs.DemandCodec.{DemandFits, PromiseFits, demandTest, promiseTest, demand, promise, demand-read-fits, promise-read-fits}
 
 abbrev pub BoxFits : Box Route Demand → Type 0

@@ -1,19 +1,19 @@
 -- A demand and a promise written and read back, and read and written back: their codecs.
-use mathlib.Core.Path.{_≡_, refl, sym, ap, ap₂, _∙_}
-use mathlib.Core.Bool.{Bool, true, false, cond, _&&_, _||_, false≢true}
-use mathlib.Core.List.{List, [], _∷_, _++_}
+use mathlib.Core.Path.{_≡_, refl, sym, ap}
+use mathlib.Core.Bool.{Bool, true, false, cond, _&&_, _||_}
+use mathlib.Core.List.{List}
 use mathlib.Core.Option.{Option, none, some}
 use Prim.Native.Nat.{ℕ, zero, suc, _+_, _≤_, _<_}
 use native.Mathlib.Nat.{add-zero}
 use native.Mathlib.Omega.{arith}
 use lib.Dec.{eqb}
-use lib.ListN.{getD, length}
-use borrow.Author.Tests.{eqb-true, eqb-false}
+use lib.ListN.{getD}
+use borrow.Author.Tests.{eqb-true}
 use Rattle.lists.specs.Codec.{Codec, byte, pair, named, restated, Bytes}
 use Rattle.lists.specs.Test.{and-l, and-r}
 use Rattle.numbers.specs.BigEndian.{u16At, u16Bytes}
 use Rattle.numbers.proofs.Codecs.{u16, u16-below}
-use Rattle.routes.specs.Form.{zeros, routeAt, routeBytes, routeFormed}
+use Rattle.routes.specs.Form.{zeros, routeAt, routeFormed}
 use Rattle.routes.proofs.RouteCodec.{route, RouteFits, route-read-fits, all-zeros, zero-bytes, zeros-number, zeros-route, none-zeros}
 use Rattle.routes.specs.declared.Demand.{Demand}
 use Rattle.routes.specs.declared.Demand.the-variants.{Nothing, Hold, HoldNone}

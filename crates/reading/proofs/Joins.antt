@@ -1,13 +1,14 @@
 -- Neighbouring pieces of a list of bytes put together again, and the first bytes of a record.
-use mathlib.Core.Path.{_≡_, refl, sym, ap, ap₂, _∙_}
-use mathlib.Core.List.{List, [], _∷_, _++_}
+use mathlib.Core.Path.{_≡_, sym, ap, _∙_}
+use mathlib.Core.List.{List, _∷_, _++_}
 use Prim.Native.Nat.{ℕ, _+_, _≤_, _<_}
 use native.Mathlib.Numerals.{add-one}
 use native.Mathlib.Omega.{arith}
-use lib.ListN.{length, getD, take, drop, take-append-drop}
+use lib.ListN.{length, getD, take, drop, take-append-drop, length-drop}
 use lib.Seq.{drop-drop, drop-cons}
 use Rattle.lists.specs.Codec.{Bytes}
 use Rattle.numbers.specs.BigEndian.{u16At, u32At, u16Bytes, u32Bytes}
+use Rattle.reading.specs.Whole.{recordOf}
 use Rattle.numbers.proofs.Codecs.{u16, u32, u32-value, u32-bytes}
 
 module _ (b : List ℕ) where
@@ -27,3 +28,12 @@ module _ (b : List ℕ) where
         ap (λ (l : List ℕ). l ++ drop (o + 4) b)
         (sym (u32-bytes (u32At b o)) ∙ ap (u32 .bytes) (sym (u32-value b o)) ∙ u32 .forth b o h ((small o, small (o + 1)), (small (o + 2), small (o + 2 + 1))))
         ∙ piece-on o 4
+
+    -- a record's length field and version before the rest
+    pub record-on : 5 ≤ length b → getD b 4 0 ≡ 1 → u32At b 0 + 4 ≡ length b → recordOf (drop 5 b) ≡ b
+    record-on long version said =
+        let field : length (drop 5 b) + 1 ≡ u32At b 0 = rw length-drop (omega arith) in
+        rw field
+        (ap (λ (v : ℕ). u32Bytes (u32At b 0) ++ (v ∷ drop 5 b)) (sym version)
+        ∙ ap (_++_ (u32Bytes (u32At b 0))) (byte-on 4 (omega arith))
+        ∙ u32-on 0 (omega arith))

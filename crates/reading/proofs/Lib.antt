@@ -8,3 +8,6 @@ pub mod Said
 pub mod NetworkBytes
 pub mod ReadSound
 pub mod WrittenFine
+pub mod EntryBytes
+pub mod EntryKinds
+pub mod Bridges

@@ -1,27 +1,23 @@
 -- A network's bytes: what is written is read back, and what is read from a sound record is written as the same bytes.
 use mathlib.Core.Path.{_≡_, refl, sym, ap, ap₂, _∙_}
-use mathlib.Core.Bool.{Bool, true}
+use mathlib.Core.Bool.{true}
 use mathlib.Core.List.{List, [], _∷_, _++_, append-assoc, append-nil}
-use Prim.Native.Nat.{ℕ, suc, _+_, _*_, _-_, _/_, _%_, _≤_, _<_}
+use Prim.Native.Nat.{ℕ, suc, _+_, _*_, _/_, _%_, _≤_, _<_}
 use native.Mathlib.Omega.{arith}
 use lib.Dec.{leb}
-use lib.ListN.{length, getD, take, drop, length-append, length-drop}
+use lib.ListN.{length, drop, length-append, length-drop}
 use lib.Seq.{take-all}
 use Rattle.lists.specs.All.{All}
-use Rattle.lists.specs.Codec.{Codec, Bytes, rows-in, rows-forth}
+use Rattle.lists.specs.Codec.{Bytes, rows-in, rows-forth}
 use Rattle.lists.specs.Rows.{rows, laidRows, length-rows, length-laidRows}
 use Rattle.lists.specs.Rising.{least}
 use Rattle.lists.specs.Stride.{at}
 use Rattle.lists.specs.Test.{and-r}
-use Rattle.numbers.specs.BigEndian.{u16At, u32At, u16Bytes, u32Bytes}
+use Rattle.numbers.specs.BigEndian.{u16At, u16Bytes, u32Bytes}
 use Rattle.routes.specs.Form.{policyAt, policyBytes}
 use Rattle.routes.proofs.PolicyCodec.{PolicyFits, policy}
-use Rattle.routes.specs.declared.Demand.{Demand}
-use Rattle.routes.specs.declared.Policy.{Policy}
-use Rattle.routes.specs.declared.Route.{Route}
-use Rattle.networks.specs.Network.{Box, Wire}
 use Rattle.records.specs.Form.{nodeWidth}
-use Rattle.records.specs.Layout.{nodeCount, edgeCount, policyCount, policyOffset, nodePart, nodeOffset, edgePart, edgeOffset, total}
+use Rattle.records.specs.Layout.{nodeCount, edgeCount, policyCount, policyOffset, nodePart, nodeOffset, edgePart, edgeOffset}
 use Rattle.records.specs.Node.{nodeId, nodeOk, nodeFormed}
 use Rattle.records.specs.Network.{policyOk}
 use Rattle.records.specs.Fine.{NetworkFine}
@@ -30,7 +26,7 @@ use Rattle.reading.specs.Parts.{boxAt, boxBytes, wireAt, wireBytes}
 use Rattle.reading.specs.Whole.{HouseNetwork, readNetwork, writeNetwork}
 use Rattle.reading.proofs.BoxCodec.{BoxFits, box}
 use Rattle.reading.proofs.RowCodecs.{WireFits, wire}
-use Rattle.reading.proofs.Joins.{piece-on, byte-on, u16-on, u32-on}
+use Rattle.reading.proofs.Joins.{piece-on, byte-on, u16-on, record-on}
 
 -- every number of the network fits its bytes
 pub record NetworkFits (N : HouseNetwork) : Type 0 where
@@ -178,8 +174,4 @@ module _ (f : Form) (enough : 9 ≤ f .route) where
     unfolding writeNetwork
     written-read =
         let long = fine .long in
-        let length-field : length (drop 5 b) + 1 ≡ u32At b 0 = rw length-drop (let h = fine .said in let g = fine .whole in omega arith) in
-        rw (rest-forth, length-field)
-        (ap (λ (v : ℕ). u32Bytes (u32At b 0) ++ (v ∷ drop 5 b)) (sym (fine .version))
-        ∙ ap (_++_ (u32Bytes (u32At b 0))) (byte-on b 4 (omega arith))
-        ∙ u32-on b small 0 (omega arith))
+        rw rest-forth (record-on b small (omega arith) (fine .version) (fine .said ∙ fine .whole))

@@ -1,33 +1,33 @@
 -- A record that none of 1 to 10 is refused of says a sound network.
-use mathlib.Core.Path.{_≡_, refl, sym, ap, ap₂, _∙_, subst}
-use mathlib.Core.Bool.{Bool, true, false, not, _&&_, _||_, false≢true}
+use mathlib.Core.Path.{_≡_, refl, sym, ap, _∙_}
+use mathlib.Core.Bool.{true, false, not, false≢true}
 use mathlib.Core.List.{List, [], _∷_, filterMap}
-use mathlib.Core.Option.{Option, none, some}
-use Prim.Native.Nat.{ℕ, suc, _+_, _*_, _≤_, _<_}
+use mathlib.Core.Option.{some}
+use Prim.Native.Nat.{ℕ, _+_, _≤_, _<_}
 use native.Mathlib.Omega.{arith}
-use lib.Dec.{eqb, leb, ltb}
+use lib.Dec.{eqb, leb}
 use lib.ListN.{length, getD}
-use borrow.Author.Tests.{leb-true, ltb-true, eqb-false, not-true}
+use borrow.Author.Tests.{leb-true, eqb-false}
 use Rattle.lists.specs.All.{All, any, any-congr, all-of}
 use Rattle.lists.specs.Codec.{Bytes}
 use Rattle.lists.specs.Filter.{some-inj, none-some, holds, any-filterMap, all-filterMap}
 use Rattle.lists.specs.Rising.{least, least-ext}
-use Rattle.lists.specs.Rows.{rows, length-rows, all-rows}
+use Rattle.lists.specs.Rows.{length-rows, all-rows}
 use Rattle.lists.specs.Sorted.{Rises}
 use Rattle.lists.specs.Stride.{at}
-use Rattle.lists.specs.Table.{keys, rises-rows}
-use Rattle.lists.specs.Test.{and-l, and-r, or-second}
+use Rattle.lists.specs.Table.{rises-rows}
+use Rattle.lists.specs.Test.{and-l, or-second}
 use Rattle.numbers.specs.BigEndian.{u16At}
 use Rattle.numbers.proofs.Codecs.{u16-below}
 use Rattle.routes.specs.Form.{policyAt}
 use Rattle.routes.specs.declared.Demand.{Demand}
 use Rattle.routes.specs.declared.Route.{Route}
-use Rattle.networks.specs.Network.{Own, Input, Box, own, input, Wire, ids, wire-key, box-id, as-own, as-input, is-own, own-boxes, inputs, owns, has-box}
+use Rattle.networks.specs.Network.{Own, Input, Box, own, input, ids, wire-key, box-id, as-own, as-input, is-own, own-boxes, inputs}
 use Rattle.networks.specs.Sound.{Sound, Joined, sends}
 use Rattle.records.specs.Form.{nodeWidth}
 use Rattle.records.specs.Layout.{nodeCount, edgeCount, policyCount, nodePart, edgePart, nodeOffset, edgeOffset}
-use Rattle.records.specs.Node.{nodeId, nodeOk, nodeFormed, ownless, isOwn as ownRow}
-use Rattle.records.specs.Edge.{edgeTo, edgeFrom, edgePolicy, edgeKey, boxed, owned, edgeOk, leftBy, inputOk}
+use Rattle.records.specs.Node.{nodeId, nodeOk, nodeFormed, isOwn as ownRow}
+use Rattle.records.specs.Edge.{edgeTo, edgeFrom, edgePolicy, leftBy, inputOk}
 use Rattle.records.specs.Fine.{NetworkFine}
 use Rattle.records.specs.declared.Form.{Form}
 use Rattle.reading.specs.Parts.{boxAt, wireAt}

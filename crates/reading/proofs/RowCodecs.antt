@@ -1,14 +1,12 @@
 -- Wires and entries written and read back, and read and written back: their codecs.
-use mathlib.Core.Path.{_≡_, refl, sym, ap, ap₂, _∙_}
-use mathlib.Core.Bool.{Bool, true}
-use mathlib.Core.List.{List, [], _∷_, _++_}
+use mathlib.Core.Path.{_≡_, refl}
+use mathlib.Core.Bool.{true}
+use mathlib.Core.List.{List}
 use Prim.Native.Nat.{ℕ, _+_, _≤_, _<_}
 use native.Mathlib.Omega.{arith}
-use lib.ListN.{getD}
 use Rattle.lists.specs.Codec.{Codec, byte, pair, named, restated, Bytes}
-use Rattle.numbers.specs.BigEndian.{u16At, u16Bytes}
 use Rattle.numbers.proofs.Codecs.{u16, u16-below}
-use Rattle.routes.specs.Form.{routeAt, routeBytes, routeFormed}
+use Rattle.routes.specs.Form.{routeFormed}
 use Rattle.routes.proofs.RouteCodec.{route, RouteFits, route-read-fits}
 use Rattle.routes.specs.declared.Route.{Route}
 use Rattle.networks.specs.Network.{Wire}

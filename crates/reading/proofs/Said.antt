@@ -3,18 +3,17 @@
 --     owns-read, has-box-read        a box with an id, and an own one
 --     own-read, sends-read           an own box at all; a wire out of a box
 --     Edge, edge-parts, parts-edge   an edge's test, taken apart and put together
-use mathlib.Core.Path.{_≡_, refl, sym, ap, ap₂, _∙_}
+use mathlib.Core.Path.{_≡_, refl, ap, _∙_}
 use mathlib.Core.Bool.{Bool, true, false, cond, not, _&&_}
-use mathlib.Core.List.{List, [], _∷_}
-use mathlib.Core.Option.{Option, none, some}
-use Prim.Native.Nat.{ℕ, _+_, _*_, _≤_, _<_}
+use mathlib.Core.List.{List}
+use mathlib.Core.Option.{none, some}
+use Prim.Native.Nat.{ℕ, _+_, _≤_, _<_}
 use lib.Dec.{eqb, leb, ltb}
 use borrow.Author.Tests.{leb-true, ltb-true, not-true, le-leb, lt-ltb}
-use lib.ListN.{length, getD}
+use lib.ListN.{getD}
 use Rattle.lists.specs.All.{any}
-use Rattle.lists.specs.First.{every, every-ext, first-ext}
-use Rattle.lists.specs.Rising.{least, place, place-ext}
-use Rattle.lists.specs.Rows.{rows}
+use Rattle.lists.specs.First.{every, every-ext}
+use Rattle.lists.specs.Rising.{least, place-ext}
 use Rattle.lists.specs.Sorted.{find}
 use Rattle.lists.specs.Stride.{at}
 use Rattle.lists.specs.Test.{and-l, and-r, cond-ap, cond-same, cond-test}
@@ -22,7 +21,7 @@ use Rattle.lists.specs.Table.{keys, rowAt, find-rows, any-rows}
 use Rattle.numbers.specs.BigEndian.{u16At}
 use Rattle.routes.specs.declared.Demand.{Demand}
 use Rattle.routes.specs.declared.Route.{Route}
-use Rattle.networks.specs.Network.{Own, Input, Box, own, input, Wire, wire-key, box-id, is-box, is-own, has-box, owns}
+use Rattle.networks.specs.Network.{Box, Wire, wire-key, box-id, is-box, is-own, has-box, owns}
 use Rattle.networks.specs.Sound.{sends}
 use Rattle.records.specs.Form.{nodeWidth}
 use Rattle.records.specs.Layout.{nodeCount, edgeCount, policyCount, nodePart, edgePart, nodeOffset, edgeOffset}

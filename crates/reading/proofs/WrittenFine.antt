@@ -1,36 +1,35 @@
 -- A sound network whose numbers fit, written, is a record of which none of 1 to 10 is refused.
 --     sound-fine       bytes that are formed and say a sound network
 --     written-fine     the bytes that are written of one
-use mathlib.Core.Path.{_≡_, refl, sym, ap, ap₂, _∙_, subst}
-use mathlib.Core.Bool.{Bool, true, false, cond, not, _&&_, _||_}
-use mathlib.Core.List.{List, [], _∷_, _++_, append-assoc, append-nil}
-use mathlib.Core.Option.{Option, none, some}
-use Prim.Native.Nat.{ℕ, suc, _+_, _*_, _/_, _%_, _≤_, _<_}
+use mathlib.Core.Path.{_≡_, refl, sym, ap, _∙_, subst}
+use mathlib.Core.Bool.{Bool, true, false, not, _||_}
+use mathlib.Core.List.{List, [], _∷_, _++_}
+use mathlib.Core.Option.{some}
+use Prim.Native.Nat.{ℕ, suc, _+_, _*_, _≤_, _<_}
 use native.Mathlib.Nat.{mul-le-mul}
 use native.Mathlib.Omega.{arith}
-use lib.Dec.{eqb, leb, ltb}
+use lib.Dec.{eqb}
 use lib.ListN.{length, getD, length-append}
-use borrow.Author.Tests.{le-leb, lt-ltb, ne-eqb, not-true}
+use borrow.Author.Tests.{le-leb, ne-eqb, not-true}
 use Rattle.lists.specs.All.{All, any, all-append}
-use Rattle.lists.specs.Codec.{Bytes, RowsFormed, rows-small, rows-made, small-bytes}
+use Rattle.lists.specs.Codec.{Bytes, rows-small, rows-made, small-bytes}
 use Rattle.lists.specs.Filter.{filterMap-all}
 use Rattle.lists.specs.First.{every}
-use Rattle.lists.specs.Rising.{least, least-ext}
-use Rattle.lists.specs.Rows.{rows, length-rows, rows-all, length-laidRows}
+use Rattle.lists.specs.Rising.{least-ext}
+use Rattle.lists.specs.Rows.{length-rows, rows-all, length-laidRows}
 use Rattle.lists.specs.Stride.{at}
 use Rattle.lists.specs.Table.{rows-rise}
-use Rattle.lists.specs.Test.{and-i, or-i-l, or-i-r, cond-ap}
+use Rattle.lists.specs.Test.{and-i}
 use Rattle.numbers.specs.BigEndian.{u16At, u32At}
-use Rattle.routes.specs.Form.{policyAt, policyFormed, routeAt}
+use Rattle.routes.specs.Form.{policyAt, routeAt}
 use Rattle.routes.proofs.PolicyCodec.{policy}
-use Rattle.routes.specs.declared.Demand.{Demand}
 use Rattle.routes.specs.declared.Route.{Route}
-use Rattle.networks.specs.Network.{Own, Input, Box, own, input, Wire, wire-key, box-id, as-input, is-own, own-boxes, inputs}
+use Rattle.networks.specs.Network.{Input, own, wire-key, box-id, as-input, own-boxes, inputs}
 use Rattle.networks.specs.Sound.{Sound, Joined, sends}
 use Rattle.records.specs.Form.{nodeWidth, Usable}
 use Rattle.records.specs.Layout.{nodeCount, edgeCount, policyCount, policyOffset, nodePart, edgePart, nodeOffset, edgeOffset, total}
 use Rattle.records.specs.Node.{nodeId, nodeOk, nodeFormed, ownless, isOwn as ownRow}
-use Rattle.records.specs.Edge.{edgeTo, edgeFrom, edgePolicy, edgeKey, boxed, owned, edgeOk, leftBy, inputOk}
+use Rattle.records.specs.Edge.{edgeTo, edgeFrom, edgePolicy, edgeOk, leftBy, inputOk}
 use Rattle.records.specs.Network.{policyOk}
 use Rattle.records.specs.Fine.{NetworkFine}
 use Rattle.records.specs.declared.Form.{Form}
@@ -38,7 +37,7 @@ use Rattle.reading.specs.Parts.{boxAt, wireAt}
 use Rattle.reading.specs.Whole.{HouseNetwork, bounds, readNetwork, writeNetwork}
 use Rattle.reading.proofs.BoxCodec.{box}
 use Rattle.reading.proofs.RowCodecs.{wire}
-use Rattle.reading.proofs.Said.{box-id-at, box-own-at, read-ids, read-keys, owns-read, has-box-read, own-read, sends-read, Edge, parts-edge}
+use Rattle.reading.proofs.Said.{read-ids, read-keys, owns-read, has-box-read, own-read, sends-read, Edge, parts-edge}
 use Rattle.reading.proofs.ReadSound.{some-own-boxes}
 use Rattle.reading.proofs.NetworkBytes.{NetworkFits, policyPart, boxPart, wirePart, head, written, node-count, edge-count, policy-count, node-part, edge-part, read-written}
 

@@ -4,7 +4,7 @@ use mathlib.Core.Bool.{cond}
 use mathlib.Core.List.{List, [], _∷_, _++_}
 use mathlib.Core.Option.{Option, none, some}
 use lib.Dec.{eqb}
-use lib.ListN.{getD, replicate}
+use lib.ListN.{getD}
 use Rattle.lists.specs.Rows.{laidRows}
 use Rattle.numbers.specs.BigEndian.{u16At, u16Bytes}
 use Rattle.routes.specs.Form.{routeAt, routeBytes}
@@ -12,7 +12,7 @@ use Rattle.routes.specs.declared.Demand.{Demand}
 use Rattle.routes.specs.declared.Demand.the-variants.{Nothing, Hold, HoldNone}
 use Rattle.routes.specs.declared.Route.{Route}
 use Rattle.routes.specs.declared.Route.the-variants.{None}
-use Rattle.networks.specs.Network.{Own, Input, Box, own, input, Wire}
+use Rattle.networks.specs.Network.{Box, own, input, Wire}
 use Rattle.networks.specs.Sheets.{SheetEntry, ListEntry}
 
 -- demand, ceiling, tags

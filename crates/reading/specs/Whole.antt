@@ -1,8 +1,10 @@
 -- Networks, sheets and route lists as whole records (document 01, 'Records'): what the bytes say, and what is written.
-use Prim.Native.Nat.{ℕ, _+_, _-_, _*_}
-use mathlib.Core.List.{List, [], _∷_, _++_}
+use Prim.Native.Nat.{ℕ, _+_, _≤_}
+use mathlib.Core.List.{List, _∷_, _++_}
 use lib.ListN.{length}
+use Rattle.lists.specs.All.{All}
 use Rattle.lists.specs.Rows.{rows, laidRows}
+use Rattle.lists.specs.Sorted.{Rises}
 use Rattle.numbers.specs.BigEndian.{u16Bytes, u32Bytes}
 use Rattle.routes.specs.Form.{policyAt, policyBytes}
 use Rattle.routes.specs.declared.Demand.{Demand}
@@ -10,7 +12,7 @@ use Rattle.routes.specs.declared.Policy.{Policy}
 use Rattle.routes.specs.declared.Route.{Route}
 use Rattle.networks.specs.Network.{Network}
 use Rattle.networks.specs.Sound.{Bounds}
-use Rattle.networks.specs.Sheets.{Sheet, RouteList}
+use Rattle.networks.specs.Sheets.{SheetEntry, ListEntry, Sheet, RouteList}
 use Rattle.records.specs.Form.{nodeWidth, entryWidth, listLead, sheetLead}
 use Rattle.records.specs.Layout.{nodeCount, edgeCount, policyCount, nodePart, edgePart}
 use Rattle.records.specs.Entries.{entryCount}
@@ -60,3 +62,13 @@ module _ (f : Form) where
 
   unfoldable pub writeList : HouseList → List ℕ
   writeList L = recordOf (u16Bytes (length L) ++ laidRows (listEntryBytes (f .route)) L)
+
+-- sheets and lists that a record can hold: entries by rising id, no more than the greatest number, fragment numbers up to 63
+pub record SheetFormed (f : Form) (S : HouseSheet) : Type 0 where
+  pub few : length S ≤ f .most
+  pub rises : Rises (λ (e : SheetEntry Route). e .id) 0 S
+  pub fragments : All (λ (e : SheetEntry Route). e .fragment ≤ 63) S
+
+pub record ListFormed (f : Form) (L : HouseList) : Type 0 where
+  pub few : length L ≤ f .most
+  pub rises : Rises (λ (e : ListEntry Route). e .id) 0 L

@@ -175,8 +175,8 @@ module _ (w : ℕ) where
         behind : (k : ℕ) → k < w - 1 → getD b (o + 1 + k) 0 ≡ 0
         behind k l = ⊎-elim
             (λ (m : w - 9 ≤ k).
-                let inside : o + 1 + k ≡ o + 1 + (w - 9) + (k - (w - 9)) = omega arith in
-                rw inside (field-zeros b (o + 1 + (w - 9)) (ap (λ (x : Parts). x .1 .1) e) (k - (w - 9)) (omega arith)))
+            let inside : o + 1 + k ≡ o + 1 + (w - 9) + (k - (w - 9)) = omega arith in
+            rw inside (field-zeros b (o + 1 + (w - 9)) (ap (λ (x : Parts). x .1 .1) e) (k - (w - 9)) (omega arith)))
             (λ (m : k < w - 9). formed .1 .0 k m)
             (le-or-lt (w - 9) k)
     route-made b o (Held f) h z formed e =
@@ -218,7 +218,7 @@ unfolding routeFormed routeAt
 zeros-route w b o enough e =
     let first : getD b o 0 ≡ 0 = rw add-zero at (zeros-all b o w e 0 (omega arith)) in
     let rest : zeros b (o + 1) (w - 1) ≡ true =
-        all-zeros b (o + 1) (w - 1) (λ k l. let next : o + 1 + k ≡ o + (1 + k) = omega arith in rw next (zeros-all b o w e (1 + k) (omega arith))) in
+    all-zeros b (o + 1) (w - 1) (λ k l. let next : o + 1 + k ≡ o + (1 + k) = omega arith in rw next (zeros-all b o w e (1 + k) (omega arith))) in
     (rw (first, rest), rw first)
 
 -- and a formed route that says none is w zeros
