@@ -192,9 +192,9 @@ module _ (f : Form) (usable : Usable f) (N : HouseNetwork) (sound : Sound (bound
 
   small-written : Bytes W
   small-written = small-bytes W (subst (All (λ (x : ℕ). x < 256)) (sym (written f enough N))
-      (all-append _ (head f enough N) _ small-head
-      (all-append _ (policyPart f enough N) _ (rows-small policy (N .policies) (fits .policies-fit))
-      (all-append _ (boxPart f enough N) (wirePart f enough N) (rows-small (box (f .route) enough) (N .boxes) (fits .boxes-fit)) (rows-small wire (N .wires) (fits .wires-fit))))))
+      (all-append (λ (x : ℕ). x < 256) (head f enough N) (policyPart f enough N ++ (boxPart f enough N ++ wirePart f enough N)) small-head
+      (all-append (λ (x : ℕ). x < 256) (policyPart f enough N) (boxPart f enough N ++ wirePart f enough N) (rows-small policy (N .policies) (fits .policies-fit))
+      (all-append (λ (x : ℕ). x < 256) (boxPart f enough N) (wirePart f enough N) (rows-small (box (f .route) enough) (N .boxes) (fits .boxes-fit)) (rows-small wire (N .wires) (fits .wires-fit))))))
 
   policies-formed : (i : ℕ) → i < policyCount W → policyOk W i ≡ true
   unfolding policyOk policyOffset
