@@ -1,12 +1,13 @@
 -- Rows of one width, one after another: the values that stand at each row's offset, and rows laid down and read back.
 --     rows                     the values at n rows from an offset on
---     getD-rows, rows-next     one of them, and the rows that a loop has still to read
+--     getD-rows, getElem-rows, rows-next     one of them, and the rows that a loop has still to read
 --     laidRows, rows-back      values written one after another are read back
 use mathlib.Core.Path.{_≡_, refl, sym, ap, ap₂, _∙_}
+use mathlib.Core.Option.{some}
 use mathlib.Core.List.{List, [], _∷_, _++_, append-assoc}
 use Prim.Native.Nat.{ℕ, zero, suc, _+_, _*_, _-_, _≤_, _<_}
 use native.Mathlib.Omega.{arith}
-use lib.ListN.{length, getD, length-append}
+use lib.ListN.{length, getD, getElem?, length-append}
 use Rattle.lists.specs.All.{All}
 use Rattle.lists.specs.Stride.{at, at-zero, at-next, at-shift}
 
@@ -23,6 +24,11 @@ module _ {A : Type 0} (value : ℕ → A) (width : ℕ) where
   getD-rows offset zero i d h = absurd (omega arith)
   getD-rows offset (suc n) zero d h = ap value (sym (at-zero offset width))
   getD-rows offset (suc n) (suc i) d h = getD-rows (offset + width) n i d (omega arith) ∙ ap value (sym (at-shift offset width i))
+
+  pub getElem-rows : (offset n i : ℕ) → i < n → getElem? (rows offset n) i ≡ some (value (at offset width i))
+  getElem-rows offset zero i h = absurd (omega arith)
+  getElem-rows offset (suc n) zero h = ap (λ (o : ℕ). some (value o)) (sym (at-zero offset width))
+  getElem-rows offset (suc n) (suc i) h = getElem-rows (offset + width) n i (omega arith) ∙ ap (λ (o : ℕ). some (value o)) (sym (at-shift offset width i))
 
   -- the rows from the i-th on: its value, then those from the next on
   pub rows-next : (offset n i : ℕ) → i < n → rows (at offset width i) (n - i) ≡ value (at offset width i) ∷ rows (at offset width (i + 1)) (n - (i + 1))

@@ -1,9 +1,30 @@
 -- Laws about the definitions of specs/, in the order in which they rest on each other.
+--     Boxes, Wires, Entries       boxes by kind and id; the order of wires; what a sheet or a list says of a box
+--     Named, Answers              the box that an answer names; answers and refusals taken apart
+--     Order                       the order that the laws of choice make
+--     Pieces, Formed, Soundness   what a fragment has, what of it every cut keeps, and that it is sound
+--     Cutting, Refused            the cutter's answers; what a refusal tells
+--     Uncut, Recut                a network that nothing cuts; one cut upon another
+--     Solutions                   solutions in a network and in its fragments
+--     Judging, Agreeing           the judge's answers; two lists that agree
+--     Mapping, Whole              what a list maps a fragment's boxes to; fragments and whole
+--     Points                      the paper's definition of a fragment, id by id
 pub mod Boxes
+pub mod Wires
+pub mod Entries
+pub mod Named
+pub mod Answers
+pub mod Order
 pub mod Pieces
 pub mod Formed
+pub mod Soundness
 pub mod Cutting
+pub mod Refused
+pub mod Uncut
+pub mod Recut
 pub mod Solutions
 pub mod Judging
+pub mod Agreeing
 pub mod Mapping
-pub mod Recut
+pub mod Whole
+pub mod Points

@@ -1,10 +1,22 @@
 -- The theorems about networks, one a file, and the laws that they rest on.
+--     SoundTest                    soundness as a fact and as a test
+--     Passing, SameAnswer          demand 2, of the judge; lists that agree
+--     Refusals                     17, 18 and 19 with their places
+--     PaperCut, FragmentSound, OneFragment     the fragment: the paper's, sound, and the network itself where nothing is cut
+--     FragmentsAndWhole, Recutting     the two halves of demand 3
+--     PaperTheorems                what document 000 proves
+--     BestRoute, HouseRoutes       what the laws of choice give, and that the house's routes keep them
+--     Laws                         all else
 pub mod SoundTest
 pub mod Passing
 pub mod SameAnswer
+pub mod Refusals
+pub mod PaperCut
 pub mod FragmentSound
+pub mod OneFragment
 pub mod FragmentsAndWhole
 pub mod Recutting
-pub mod OneFragment
-pub mod PaperCut
+pub mod PaperTheorems
+pub mod BestRoute
+pub mod HouseRoutes
 pub mod Laws

@@ -1,6 +1,7 @@
 -- Routing algebras (document 000, section III): everything that judging and cutting ask of a kind of route.
 --     Algebra     routes, policies and demands; of them only that `same` tells whether two routes are equal
 --     Choice      the laws that make the best of several routes one route; the theorems that need them say so
+--     AtLeast     the order that these laws make of `best`
 use mathlib.Core.Path.{_≡_}
 use mathlib.Core.Bool.{Bool, true}
 use mathlib.Core.Logic.{_⊎_}
@@ -10,7 +11,7 @@ pub record Algebra : Type 1 where
   pub Policy : Type 0
   pub Demand : Type 0
   -- no route, a value like any other
-  pub no-route : Route
+  pub noRoute : Route
   -- whether two routes are equal
   pub same : Route → Route → Bool
   -- the better of two routes, the paper's ⊕
@@ -27,6 +28,10 @@ pub record Choice (𝓐 : Algebra) : Type 0 where
   pub selective : (x y : 𝓐 .Route) → (𝓐 .best x y ≡ x) ⊎ (𝓐 .best x y ≡ y)
   pub commutative : (x y : 𝓐 .Route) → 𝓐 .best x y ≡ 𝓐 .best y x
   pub associative : (x y z : 𝓐 .Route) → 𝓐 .best (𝓐 .best x y) z ≡ 𝓐 .best x (𝓐 .best y z)
-  pub none-worst : (x : 𝓐 .Route) → 𝓐 .best x (𝓐 .no-route) ≡ x
-  -- a wire makes no route out of none
-  pub carry-none : (p : 𝓐 .Policy) → 𝓐 .carry p (𝓐 .no-route) ≡ 𝓐 .no-route
+  pub none-worst : (x : 𝓐 .Route) → 𝓐 .best x (𝓐 .noRoute) ≡ x
+  -- a wire makes nothing out of no route
+  pub carry-none : (p : 𝓐 .Policy) → 𝓐 .carry p (𝓐 .noRoute) ≡ 𝓐 .noRoute
+
+-- x is at least as good as y
+abbrev pub AtLeast : (𝓐 : Algebra) → 𝓐 .Route → 𝓐 .Route → Type 0
+AtLeast 𝓐 x y = 𝓐 .best x y ≡ x

@@ -1,14 +1,14 @@
 -- The numbers given back: an answer, or a refusal by number and place.
---     Answer, refuse, and-then     answers, the rows of a table of refusals, one call upon another's answer
---     lowest                       the lowest id of an own box that meets a test
---     Entered, unentered           every own box has an entry; refusal 17, which judging and cutting share
+--     Answer, refuse, andThen     answers, the rows of a table of refusals, one call upon another's answer
+--     lowest, LowestOwn           the lowest own box that meets a test, or of which something holds
+--     Entered, unentered          every own box has an entry; refusal 17, which judging and cutting share
 use mathlib.Core.Path.{_≡_}
 use mathlib.Core.Bool.{Bool, true, false, cond, not}
 use mathlib.Core.Option.{Option, none, some}
 use mathlib.Core.List.{List, [], _∷_}
-use Prim.Native.Nat.{ℕ}
+use Prim.Native.Nat.{ℕ, _<_}
 use Rattle.lists.specs.All.{All}
-use Rattle.networks.specs.Network.{Own, Network, own-boxes}
+use Rattle.networks.specs.Network.{Own, own, Network, ownBoxes, box}
 
 pub data Answer (A : Type 0) : Type 0 where
   given : A → Answer A
@@ -20,24 +20,30 @@ refuse number none below = below
 refuse number (some place) below = refused number place
 
 -- A call on what another call gave; a refusal stays as it is.
-abbrev pub and-then : {A B : Type 0} → Answer A → (A → Answer B) → Answer B
-and-then (given x) f = f x
-and-then (refused number place) f = refused number place
+abbrev pub andThen : {A B : Type 0} → Answer A → (A → Answer B) → Answer B
+andThen (given x) f = f x
+andThen (refused number place) f = refused number place
 
 -- Ids rise, so the lowest is the first.
 abbrev pub lowest : {R D : Type 0} → (Own R D → Bool) → List (Own R D) → Option ℕ
 lowest test [] = none
 lowest test (b ∷ bs) = cond (test b) (some (b .id)) (lowest test bs)
 
-abbrev pub is-some : {A : Type 0} → Option A → Bool
-is-some none = false
-is-some (some x) = true
+-- Box i is an own box of which Q holds, and Q holds of no own box below it.
+abbrev pub LowestOwn : {R P D : Type 0} → Network R P D → (Own R D → Type 0) → ℕ → Type 0
+LowestOwn {R} {P} {D} N Q i =
+    ((b : Own R D) × (box N i ≡ some (own b)) × Q b)
+    × All (λ (d : Own R D). d .id < i → Q d → ⊥) (ownBoxes N)
+
+abbrev pub isSome : {A : Type 0} → Option A → Bool
+isSome none = false
+isSome (some x) = true
 
 module _ {R P D : Type 0} (N : Network R P D) (entry : ℕ → Option R) where
   -- Every own box has an entry; `entry` is the notes of a sheet, or the routes of a list.
   abbrev pub Entered : Type 0
-  Entered = All (λ (b : Own R D). is-some (entry (b .id)) ≡ true) (own-boxes N)
+  Entered = All (λ (b : Own R D). isSome (entry (b .id)) ≡ true) (ownBoxes N)
 
   -- the place of refusal 17: the lowest own box without an entry
   abbrev pub unentered : Option ℕ
-  unentered = lowest (λ (b : Own R D). not (is-some (entry (b .id)))) (own-boxes N)
+  unentered = lowest (λ (b : Own R D). not (isSome (entry (b .id)))) (ownBoxes N)

@@ -1,8 +1,9 @@
 -- Open networks (document 000, definition IV.1): own boxes, inputs, wires and policies, over any types of routes, policies and demands.
---     Own, Input, Box, Wire, Network     the parts
---     own-boxes, inputs                  the two kinds of box, by rising id
---     box, owns, has-box                 the box with an id
---     wires-into, wire-key               the wires into a box; the order in which wires stand
+--     Own, Input, Box, Wire, Network     the parts; NetworkOver, the networks over an algebra
+--     wireKey                            the order in which wires stand
+--     ownBoxes, inputs                   the two kinds of box, by rising id
+--     box, hasBox, owns                  the box with an id
+--     wiresInto                          the wires into a box
 use mathlib.Core.Bool.{Bool, true, false}
 use mathlib.Core.Option.{Option, none, some}
 use mathlib.Core.List.{List, filterMap}
@@ -10,6 +11,7 @@ use Prim.Native.Nat.{ℕ, _+_, _*_}
 use lib.Dec.{eqb}
 use Rattle.lists.specs.Filter.{filter}
 use Rattle.lists.specs.Sorted.{find}
+use Rattle.networks.specs.Algebra.{Algebra}
 
 -- A box of ours. A promise of no route is a promise; `none` is no promise.
 pub record Own (R D : Type 0) : Type 0 where
@@ -38,53 +40,56 @@ pub record Network (R P D : Type 0) : Type 0 where
   pub boxes : List (Box R D)
   pub wires : List Wire
 
+abbrev pub NetworkOver : Algebra → Type 0
+NetworkOver 𝓐 = Network (𝓐 .Route) (𝓐 .Policy) (𝓐 .Demand)
+
 -- Ids are 16-bit numbers.
 abbrev pub ids : ℕ
 ids = 65536
 
 -- Wires stand by their to end, and at one to end by their from end.
-abbrev pub wire-key : Wire → ℕ
-wire-key w = w .to * ids + w .from
+abbrev pub wireKey : Wire → ℕ
+wireKey w = w .to * ids + w .from
 
 module _ {R D : Type 0} where
-  abbrev pub box-id : Box R D → ℕ
-  box-id (own b) = b .id
-  box-id (input a) = a .id
+  abbrev pub boxId : Box R D → ℕ
+  boxId (own b) = b .id
+  boxId (input a) = a .id
 
-  abbrev pub as-own : Box R D → Option (Own R D)
-  as-own (own b) = some b
-  as-own (input a) = none
+  abbrev pub asOwn : Box R D → Option (Own R D)
+  asOwn (own b) = some b
+  asOwn (input a) = none
 
-  abbrev pub as-input : Box R D → Option (Input R)
-  as-input (own b) = none
-  as-input (input a) = some a
+  abbrev pub asInput : Box R D → Option (Input R)
+  asInput (own b) = none
+  asInput (input a) = some a
 
   -- whether a box was found, and whether it is an own one
-  abbrev pub is-box : Option (Box R D) → Bool
-  is-box none = false
-  is-box (some v) = true
+  abbrev pub isBox : Option (Box R D) → Bool
+  isBox none = false
+  isBox (some v) = true
 
-  abbrev pub is-own : Option (Box R D) → Bool
-  is-own none = false
-  is-own (some (own b)) = true
-  is-own (some (input a)) = false
+  abbrev pub isOwn : Option (Box R D) → Bool
+  isOwn none = false
+  isOwn (some (own b)) = true
+  isOwn (some (input a)) = false
 
 module _ {R P D : Type 0} (N : Network R P D) where
-  abbrev pub own-boxes : List (Own R D)
-  own-boxes = filterMap as-own (N .boxes)
+  abbrev pub ownBoxes : List (Own R D)
+  ownBoxes = filterMap asOwn (N .boxes)
 
   abbrev pub inputs : List (Input R)
-  inputs = filterMap as-input (N .boxes)
+  inputs = filterMap asInput (N .boxes)
 
   -- the box with an id, if there is one
   abbrev pub box : ℕ → Option (Box R D)
-  box i = find box-id i (N .boxes)
+  box i = find boxId i (N .boxes)
 
-  abbrev pub has-box : ℕ → Bool
-  has-box i = is-box (box i)
+  abbrev pub hasBox : ℕ → Bool
+  hasBox i = isBox (box i)
 
   abbrev pub owns : ℕ → Bool
-  owns i = is-own (box i)
+  owns i = isOwn (box i)
 
-  abbrev pub wires-into : ℕ → List Wire
-  wires-into i = filter (λ (w : Wire). eqb (w .to) i) (N .wires)
+  abbrev pub wiresInto : ℕ → List Wire
+  wiresInto i = filter (λ (w : Wire). eqb (w .to) i) (N .wires)

@@ -2,6 +2,7 @@
 --     Bounds             the greatest numbers of boxes, wires and policies
 --     Joined, Sound      a wire fits the network; the network is sound
 --     sound              the same as a test; proofs/SoundTest.antt shows that both say the same
+--     NoMore             a network has no more boxes, wires and policies than another
 use mathlib.Core.Path.{_≡_}
 use mathlib.Core.Bool.{Bool, true, not}
 use mathlib.Core.List.{List, [], _∷_}
@@ -10,7 +11,7 @@ use lib.Dec.{eqb, leb, ltb}
 use lib.ListN.{length}
 use Rattle.lists.specs.All.{All, all, any}
 use Rattle.lists.specs.Sorted.{Rises, rises}
-use Rattle.networks.specs.Network.{Box, Input, Wire, Network, ids, wire-key, box-id, own-boxes, inputs, has-box, owns}
+use Rattle.networks.specs.Network.{Box, Input, Wire, Network, ids, wireKey, boxId, ownBoxes, inputs, hasBox, owns}
 
 pub record Bounds : Type 0 where
   pub boxes : ℕ
@@ -20,7 +21,7 @@ pub record Bounds : Type 0 where
 -- Both ends exist and differ, the to end is an own box, and the policy exists.
 pub record Joined {R P D : Type 0} (N : Network R P D) (w : Wire) : Type 0 where
   pub to-own : owns N (w .to) ≡ true
-  pub from-there : has-box N (w .from) ≡ true
+  pub from-there : hasBox N (w .from) ≡ true
   pub differ : w .to ≡ w .from → ⊥
   pub policy-there : w .policy < length (N .policies)
 
@@ -34,12 +35,12 @@ pub record Sound {R P D : Type 0} (B : Bounds) (N : Network R P D) : Type 0 wher
   pub wires-within : length (N .wires) ≤ B .wires
   pub policies-within : length (N .policies) ≤ B .policies
   -- ids are 16-bit numbers and rise strictly (7)
-  pub ids-within : All (λ (v : Box R D). box-id v < ids) (N .boxes)
-  pub boxes-rise : Rises box-id 0 (N .boxes)
+  pub ids-within : All (λ (v : Box R D). boxId v < ids) (N .boxes)
+  pub boxes-rise : Rises boxId 0 (N .boxes)
   -- there is an own box (8)
-  pub some-own : 0 < length (own-boxes N)
+  pub some-own : 0 < length (ownBoxes N)
   -- wires rise strictly, and each fits (9)
-  pub wires-rise : Rises wire-key 0 (N .wires)
+  pub wires-rise : Rises wireKey 0 (N .wires)
   pub wires-joined : All (Joined N) (N .wires)
   -- a wire leads out of every input (10)
   pub inputs-used : All (λ (a : Input R). sends N (a .id) ≡ true) (inputs N)
@@ -49,26 +50,31 @@ abbrev pub hold : List Bool → Bool
 hold tests = all (λ (t : Bool). t) tests
 
 module _ {R P D : Type 0} where
-  abbrev pub joined-tests : Network R P D → Wire → List Bool
-  joined-tests N w =
+  abbrev pub joinedTests : Network R P D → Wire → List Bool
+  joinedTests N w =
       owns N (w .to)
-      ∷ has-box N (w .from)
+      ∷ hasBox N (w .from)
       ∷ not (eqb (w .to) (w .from))
       ∷ ltb (w .policy) (length (N .policies))
       ∷ []
 
-  abbrev pub sound-tests : Bounds → Network R P D → List Bool
-  sound-tests B N =
+  abbrev pub soundTests : Bounds → Network R P D → List Bool
+  soundTests B N =
       leb (length (N .boxes)) (B .boxes)
       ∷ leb (length (N .wires)) (B .wires)
       ∷ leb (length (N .policies)) (B .policies)
-      ∷ all (λ (v : Box R D). ltb (box-id v) ids) (N .boxes)
-      ∷ rises box-id 0 (N .boxes)
-      ∷ ltb 0 (length (own-boxes N))
-      ∷ rises wire-key 0 (N .wires)
-      ∷ all (λ (w : Wire). hold (joined-tests N w)) (N .wires)
+      ∷ all (λ (v : Box R D). ltb (boxId v) ids) (N .boxes)
+      ∷ rises boxId 0 (N .boxes)
+      ∷ ltb 0 (length (ownBoxes N))
+      ∷ rises wireKey 0 (N .wires)
+      ∷ all (λ (w : Wire). hold (joinedTests N w)) (N .wires)
       ∷ all (λ (a : Input R). sends N (a .id)) (inputs N)
       ∷ []
 
   unfoldable pub sound : Bounds → Network R P D → Bool
-  sound B N = hold (sound-tests B N)
+  sound B N = hold (soundTests B N)
+
+pub record NoMore {R P D : Type 0} (F N : Network R P D) : Type 0 where
+  pub boxes : length (F .boxes) ≤ length (N .boxes)
+  pub wires : length (F .wires) ≤ length (N .wires)
+  pub policies : length (F .policies) ≤ length (N .policies)

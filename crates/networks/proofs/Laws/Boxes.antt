@@ -4,62 +4,65 @@
 --     own-rise                 own boxes stand by rising id
 --     owned, own-fact, own-any     from `owns` to the own box, to what every own box has, and to a test that some own box meets
 use mathlib.Core.Path.{_≡_, refl, sym, ap, _∙_, subst}
-use mathlib.Core.Bool.{Bool, true, false, false≢true}
+use mathlib.Core.Bool.{Bool, true, false≢true}
 use mathlib.Core.Option.{Option, none, some}
-use mathlib.Core.List.{List, filterMap}
+use mathlib.Core.List.{filterMap}
 use Prim.Native.Nat.{ℕ}
 use Rattle.lists.specs.All.{All, all-map, any, any-here}
 use Rattle.lists.specs.Filter.{some-inj, none-some, all-filterMap, filterMap-all}
 use Rattle.lists.specs.Sorted.{Rises, rises-filterMap, find-key, find-all, find-self}
-use Rattle.networks.specs.Network.{Own, Input, Box, own, input, Network, box-id, as-own, as-input, is-box, is-own, own-boxes, inputs, box, has-box, owns}
+use Rattle.networks.specs.Network.{Own, Input, Box, own, input, Network, boxId, asOwn, asInput, isOwn, ownBoxes, inputs, box, owns}
 
 -- one kind of box, and the box that each of the kind is
-module _ {A R P D : Type 0} (N : Network R P D) (kind : Box R D → Option A) (make : A → Box R D) (same : (x : A) → kind (make x) ≡ some x) (only : (v : Box R D) (x : A) → kind v ≡ some x → v ≡ make x) where
+module _ {A R P D : Type 0} (N : Network R P D) (kind : Box R D → Option A) (make : A → Box R D) (same : (x : A) → kind (make x) ≡ some x)
+    (only : (v : Box R D) (x : A) → kind v ≡ some x → v ≡ make x) where
   found : (Q : A → Type 0) (i : ℕ) (x : A) → All Q (filterMap kind (N .boxes)) → box N i ≡ some (make x) → Q x
-  found Q i x h e = find-all box-id (λ (v : Box R D). (y : A) → kind v ≡ some y → Q y) i (N .boxes) (make x) (filterMap-all Q kind (N .boxes) h) e x (same x)
+  found Q i x h e = find-all boxId (λ (v : Box R D). (y : A) → kind v ≡ some y → Q y) i (N .boxes) (make x)
+      (filterMap-all Q kind (N .boxes) h) e x (same x)
 
-  there : Rises box-id 0 (N .boxes) → All (λ (x : A). box N (box-id (make x)) ≡ some (make x)) (filterMap kind (N .boxes))
-  there rise = all-filterMap (λ (x : A). box N (box-id (make x)) ≡ some (make x)) kind (N .boxes)
-      (all-map (N .boxes) (λ v e x q. subst (λ (u : Box R D). box N (box-id u) ≡ some u) (only v x q) e) (find-self box-id 0 (N .boxes) rise))
+  there : Rises boxId 0 (N .boxes) → All (λ (x : A). box N (boxId (make x)) ≡ some (make x)) (filterMap kind (N .boxes))
+  there rise = all-filterMap (λ (x : A). box N (boxId (make x)) ≡ some (make x)) kind (N .boxes)
+      (all-map (N .boxes) (λ v e x q. subst (λ (u : Box R D). box N (boxId u) ≡ some u) (only v x q) e) (find-self boxId 0 (N .boxes) rise))
 
-own-only : {R D : Type 0} (v : Box R D) (b : Own R D) → as-own v ≡ some b → v ≡ own b
+own-only : {R D : Type 0} (v : Box R D) (b : Own R D) → asOwn v ≡ some b → v ≡ own b
 own-only (own c) b e = ap own (some-inj e)
 own-only (input a) b e = absurd (none-some e)
 
-input-only : {R D : Type 0} (v : Box R D) (a : Input R) → as-input v ≡ some a → v ≡ input a
+input-only : {R D : Type 0} (v : Box R D) (a : Input R) → asInput v ≡ some a → v ≡ input a
 input-only (own b) a e = absurd (none-some e)
 input-only (input c) a e = ap input (some-inj e)
 
 module _ {R P D : Type 0} (N : Network R P D) where
-  pub own-found : (Q : Own R D → Type 0) (i : ℕ) (b : Own R D) → All Q (own-boxes N) → box N i ≡ some (own b) → Q b
-  own-found = found N as-own own (λ b. refl) own-only
+  pub own-found : (Q : Own R D → Type 0) (i : ℕ) (b : Own R D) → All Q (ownBoxes N) → box N i ≡ some (own b) → Q b
+  own-found = found N asOwn own (λ b. refl) own-only
 
   pub input-found : (Q : Input R → Type 0) (i : ℕ) (a : Input R) → All Q (inputs N) → box N i ≡ some (input a) → Q a
-  input-found = found N as-input input (λ a. refl) input-only
+  input-found = found N asInput input (λ a. refl) input-only
 
-  pub own-there : Rises box-id 0 (N .boxes) → All (λ (b : Own R D). box N (b .id) ≡ some (own b)) (own-boxes N)
-  own-there = there N as-own own (λ b. refl) own-only
+  pub own-there : Rises boxId 0 (N .boxes) → All (λ (b : Own R D). box N (b .id) ≡ some (own b)) (ownBoxes N)
+  own-there = there N asOwn own (λ b. refl) own-only
 
-  pub input-there : Rises box-id 0 (N .boxes) → All (λ (a : Input R). box N (a .id) ≡ some (input a)) (inputs N)
-  input-there = there N as-input input (λ a. refl) input-only
+  pub input-there : Rises boxId 0 (N .boxes) → All (λ (a : Input R). box N (a .id) ≡ some (input a)) (inputs N)
+  input-there = there N asInput input (λ a. refl) input-only
 
-  pub own-rise : Rises box-id 0 (N .boxes) → Rises (λ (b : Own R D). b .id) 0 (own-boxes N)
-  own-rise = rises-filterMap box-id (λ (b : Own R D). b .id) as-own (λ v b e. sym (ap box-id (own-only v b e))) 0 (N .boxes)
+  pub own-rise : Rises boxId 0 (N .boxes) → Rises (λ (b : Own R D). b .id) 0 (ownBoxes N)
+  own-rise = rises-filterMap boxId (λ (b : Own R D). b .id) asOwn (λ v b e. sym (ap boxId (own-only v b e))) 0 (N .boxes)
 
   pub owned : (i : ℕ) → owns N i ≡ true → (b : Own R D) × (box N i ≡ some (own b)) × (b .id ≡ i)
   owned i t = go (box N i) refl t
     where
-      go : (o : Option (Box R D)) → box N i ≡ o → is-own o ≡ true → (b : Own R D) × (box N i ≡ some (own b)) × (b .id ≡ i)
+      go : (o : Option (Box R D)) → box N i ≡ o → isOwn o ≡ true → (b : Own R D) × (box N i ≡ some (own b)) × (b .id ≡ i)
       go none q e = absurd (false≢true e)
       go (some (input a)) q e = absurd (false≢true e)
-      go (some (own b)) q e = (b, q, find-key box-id i (N .boxes) (own b) q)
+      go (some (own b)) q e = (b, q, find-key boxId i (N .boxes) (own b) q)
 
   -- what is known of every own box is known of the one with this id
-  pub own-fact : (Q : ℕ → Type 0) (i : ℕ) → All (λ (b : Own R D). Q (b .id)) (own-boxes N) → owns N i ≡ true → Q i
+  pub own-fact : (Q : ℕ → Type 0) (i : ℕ) → All (λ (b : Own R D). Q (b .id)) (ownBoxes N) → owns N i ≡ true → Q i
   own-fact Q i h t = let f = owned i t in subst Q (f .2) (own-found (λ (b : Own R D). Q (b .id)) i (f .0) h (f .1))
 
   -- an own box that meets a test is one of the own boxes that do
-  pub own-any : (test : ℕ → Bool) (i : ℕ) → owns N i ≡ true → test i ≡ true → any (λ (b : Own R D). test (b .id)) (own-boxes N) ≡ true
+  pub own-any : (test : ℕ → Bool) (i : ℕ) → owns N i ≡ true → test i ≡ true → any (λ (b : Own R D). test (b .id)) (ownBoxes N) ≡ true
   own-any test i t e =
       let f = owned i t in
-      own-found (λ (b : Own R D). (p : Own R D → Bool) → p b ≡ true → any p (own-boxes N) ≡ true) i (f .0) (any-here (own-boxes N)) (f .1) (λ (b : Own R D). test (b .id)) (ap test (f .2) ∙ e)
+      own-found (λ (b : Own R D). (p : Own R D → Bool) → p b ≡ true → any p (ownBoxes N) ≡ true) i (f .0) (any-here (ownBoxes N)) (f .1)
+      (λ (b : Own R D). test (b .id)) (ap test (f .2) ∙ e)

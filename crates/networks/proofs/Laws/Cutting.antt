@@ -1,5 +1,4 @@
 -- The cutter's answer, taken apart.
---     lowest-none .. refuse-given     the rows of a table of refusals
 --     Fits                            what `Cuts` says, box by box
 --     cut-answer, own-cut, cut-given  the answers of a sheet that fits; what an answer that was given tells
 --     cuts-fits                       a sheet cuts a sound network exactly where it fits
@@ -17,61 +16,30 @@ use Rattle.lists.specs.Test.{or-i-l}
 use Rattle.lists.specs.All.{All, all-map, all-both, any}
 use Rattle.lists.specs.Filter.{some-inj, none-some}
 use Rattle.networks.specs.Algebra.{Algebra}
-use Rattle.networks.specs.Network.{Own, Network, own-boxes, owns}
+use Rattle.networks.specs.Network.{Own, Network, ownBoxes, owns}
 use Rattle.networks.specs.Sound.{Bounds, Sound}
 use Rattle.networks.specs.Sheets.{Sheet, number, note}
-use Rattle.networks.specs.Answer.{Answer, given, refused, refuse, lowest, is-some, Entered, unentered}
-use Rattle.networks.specs.Cut.{leaves, fragment, numbered, off-note, clashes, cut, Cuts}
+use Rattle.networks.specs.Answer.{given, refused, refuse, lowest, isSome, Entered, unentered}
+use Rattle.networks.specs.Cut.{leaves, fragment, numbered, offNote, clashes, cut, Cuts}
 use Rattle.networks.proofs.Laws.Boxes.{own-any}
-
--- the rows of a table
-pub lowest-none : {R D : Type 0} (test : Own R D → Bool) (bs : List (Own R D)) → lowest test bs ≡ none → All (λ (b : Own R D). test b ≡ false) bs
-lowest-none test [] e = tt
-lowest-none {R} {D} test (b ∷ bs) e = go (test b) refl e (lowest-none test bs)
-  where
-    go : (t : Bool) → test b ≡ t → cond t (some (b .id)) (lowest test bs) ≡ none → (lowest test bs ≡ none → All (λ (c : Own R D). test c ≡ false) bs)
-        → (test b ≡ false) × All (λ (c : Own R D). test c ≡ false) bs
-    go true q z r = absurd (none-some (sym z))
-    go false q z r = (q, r z)
-
-pub none-lowest : {R D : Type 0} (test : Own R D → Bool) (bs : List (Own R D)) → All (λ (b : Own R D). test b ≡ false) bs → lowest test bs ≡ none
-none-lowest test [] h = refl
-none-lowest test (b ∷ bs) h = rw (h .0) (none-lowest test bs (h .1))
-
-pub given-same : {A : Type 0} {x y : A} → given x ≡ given y → x ≡ y
-given-same e = cc
-
-pub refused-given : {A : Type 0} {number place : ℕ} {x : A} → refused number place ≡ given x → ⊥
-refused-given e = let z : _≡_ {A = ℕ} 0 1 = cc in omega arith
-
-pub refused-number : {A : Type 0} {n m p q : ℕ} → _≡_ {A = Answer A} (refused n p) (refused m q) → n ≡ m
-refused-number e = cc
-
-pub refuse-given : {A : Type 0} (number : ℕ) (place : Option ℕ) (below : Answer A) (x : A) → refuse number place below ≡ given x → (place ≡ none) × (below ≡ given x)
-refuse-given number none below x e = (refl, e)
-refuse-given number (some place) below x e = absurd (refused-given e)
-
-pub entered-none : {R P D : Type 0} (N : Network R P D) (entry : ℕ → Option R) → Entered N entry → unentered N entry ≡ none
-entered-none N entry h = none-lowest _ (own-boxes N) (all-map (own-boxes N) (λ b e. ap not e) h)
-
-pub none-entered : {R P D : Type 0} (N : Network R P D) (entry : ℕ → Option R) → unentered N entry ≡ none → Entered N entry
-none-entered N entry e = all-map (own-boxes N) (λ b q. not-false (is-some (entry (b .id))) q) (lowest-none _ (own-boxes N) e)
+use Rattle.networks.proofs.Laws.Answers.{lowest-none, none-lowest, given-same, refused-given, refused-number, refuse-given, entered-none, none-entered}
 
 -- Every own box has an entry, and a promise of a box that a cut wire leaves is its note.
 pub record Fits {R P D : Type 0} (N : Network R P D) (S : Sheet R) : Type 0 where
   pub entered : Entered N (note S)
-  pub notes : All (λ (b : Own R D). leaves N S (b .id) ≡ true → (q : R) → b .promise ≡ some q → note S (b .id) ≡ some q) (own-boxes N)
+  pub notes : All (λ (b : Own R D). leaves N S (b .id) ≡ true → (q : R) → b .promise ≡ some q → note S (b .id) ≡ some q) (ownBoxes N)
 
 module _ (𝓐 : Algebra) where
   open Algebra 𝓐 using (Route, Policy, Demand, same, same-true, same-self)
 
-  no-clash : (left : Bool) (p n : Option Route) → (left ≡ true → (q : Route) → p ≡ some q → n ≡ some q) → left && off-note 𝓐 p n ≡ false
+  no-clash : (left : Bool) (p n : Option Route) → (left ≡ true → (q : Route) → p ≡ some q → n ≡ some q) → left && offNote 𝓐 p n ≡ false
   no-clash false p n f = refl
   no-clash true none n f = refl
   no-clash true (some q) none f = absurd (none-some (f refl q refl))
   no-clash true (some q) (some n) f = rw (some-inj (f refl q refl)) (ap not (same-self q))
 
-  clash-none : (left : Bool) (p n : Option Route) → is-some n ≡ true → left && off-note 𝓐 p n ≡ false → left ≡ true → (q : Route) → p ≡ some q → n ≡ some q
+  clash-none : (left : Bool) (p n : Option Route) → isSome n ≡ true → left && offNote 𝓐 p n ≡ false → left ≡ true → (q : Route) → p ≡ some q
+      → n ≡ some q
   clash-none false p n t e l q c = absurd (false≢true l)
   clash-none true none n t e l q c = absurd (none-some c)
   clash-none true (some x) none t e l q c = absurd (false≢true t)
@@ -80,37 +48,41 @@ module _ (𝓐 : Algebra) where
   module _ (N : Network Route Policy Demand) (S : Sheet Route) where
     -- the row of refusal 19
     abbrev clashing : Option ℕ
-    clashing = lowest (clashes 𝓐 N S) (own-boxes N)
+    clashing = lowest (clashes 𝓐 N S) (ownBoxes N)
 
     fits-none : Fits N S → clashing ≡ none
-    fits-none h = none-lowest (clashes 𝓐 N S) (own-boxes N) (all-map (own-boxes N) (λ b f. no-clash (leaves N S (b .id)) (b .promise) (note S (b .id)) f) (h .notes))
+    fits-none h = none-lowest (clashes 𝓐 N S) (ownBoxes N)
+        (all-map (ownBoxes N) (λ b f. no-clash (leaves N S (b .id)) (b .promise) (note S (b .id)) f) (h .notes))
 
     none-fits : unentered N (note S) ≡ none → clashing ≡ none → Fits N S
     none-fits e c = record {
       entered = none-entered N (note S) e;
-      notes = all-map (own-boxes N) (λ b h. clash-none (leaves N S (b .id)) (b .promise) (note S (b .id)) (h .0) (h .1))
-          (both (none-entered N (note S) e) (lowest-none (clashes 𝓐 N S) (own-boxes N) c));
+      notes = all-map (ownBoxes N) (λ b h. clash-none (leaves N S (b .id)) (b .promise) (note S (b .id)) (h .0) (h .1))
+          (both (none-entered N (note S) e) (lowest-none (clashes 𝓐 N S) (ownBoxes N) c));
     }
       where
-        both : Entered N (note S) → All (λ (b : Own Route Demand). clashes 𝓐 N S b ≡ false) (own-boxes N) → All (λ (b : Own Route Demand). (is-some (note S (b .id)) ≡ true) × (clashes 𝓐 N S b ≡ false)) (own-boxes N)
-        both = all-both _ _ (own-boxes N)
+        both : Entered N (note S) → All (λ (b : Own Route Demand). clashes 𝓐 N S b ≡ false) (ownBoxes N)
+            → All (λ (b : Own Route Demand). (isSome (note S (b .id)) ≡ true) × (clashes 𝓐 N S b ≡ false)) (ownBoxes N)
+        both = all-both _ _ (ownBoxes N)
 
     -- a sheet that fits leaves refusal 18
-    pub cut-answer : Fits N S → (k : ℕ) → cut 𝓐 N S k ≡ refuse 18 (cond (any (numbered N S k) (own-boxes N)) none (some k)) (given (fragment N S k))
+    pub cut-answer : Fits N S → (k : ℕ) → cut 𝓐 N S k ≡ refuse 18 (cond (any (numbered N S k) (ownBoxes N)) none (some k)) (given (fragment N S k))
     unfolding cut
     cut-answer h k = rw (entered-none N (note S) (h .entered), fits-none h) refl
 
     -- and so the fragment of every own box is given
     pub own-cut : Fits N S → (w : ℕ) → owns N w ≡ true → cut 𝓐 N S (number S w) ≡ given (fragment N S (number S w))
-    own-cut h w t = cut-answer h (number S w) ∙ rw (own-any N (λ (i : ℕ). eqb (number S i) (number S w)) w t (eq-eqb (number S w) (number S w) refl)) refl
+    own-cut h w t = cut-answer h (number S w) ∙ rw (own-any N (λ (i : ℕ). eqb (number S i) (number S w)) w t
+        (eq-eqb (number S w) (number S w) refl)) refl
 
-    pub cut-given : (k : ℕ) (F : Network Route Policy Demand) → cut 𝓐 N S k ≡ given F → Fits N S × (any (numbered N S k) (own-boxes N) ≡ true) × (fragment N S k ≡ F)
+    pub cut-given : (k : ℕ) (F : Network Route Policy Demand) → cut 𝓐 N S k ≡ given F
+        → Fits N S × (any (numbered N S k) (ownBoxes N) ≡ true) × (fragment N S k ≡ F)
     unfolding cut
     cut-given k F e =
         let a = refuse-given 17 (unentered N (note S)) _ F e in
-        let b = refuse-given 18 (cond (any (numbered N S k) (own-boxes N)) none (some k)) _ F (a .1) in
+        let b = refuse-given 18 (cond (any (numbered N S k) (ownBoxes N)) none (some k)) _ F (a .1) in
         let c = refuse-given 19 clashing _ F (b .1) in
-        (none-fits (a .0) (c .0), some-numbered (any (numbered N S k) (own-boxes N)) (b .0), given-same (c .1))
+        (none-fits (a .0) (c .0), some-numbered (any (numbered N S k) (ownBoxes N)) (b .0), given-same (c .1))
       where
         some-numbered : (t : Bool) → cond t none (some k) ≡ none → t ≡ true
         some-numbered true q = refl
@@ -119,7 +91,11 @@ module _ (𝓐 : Algebra) where
     -- some own box has the number k, so that 18 does not stand before 19
     own-numbered : (bs : List (Own Route Demand)) → 0 < length bs → (k : ℕ) × (any (numbered N S k) bs ≡ true)
     own-numbered [] l = absurd (omega arith)
-    own-numbered (b ∷ bs) l = (number S (b .id), or-i-l _ (any (numbered N S (number S (b .id))) bs) (eq-eqb (number S (b .id)) (number S (b .id)) refl))
+    own-numbered (b ∷ bs) l = (
+      number S (b .id),
+      or-i-l _ (any (numbered N S (number S (b .id))) bs)
+          (eq-eqb (number S (b .id)) (number S (b .id)) refl),
+    )
 
     module _ (cuts : Cuts 𝓐 N S) where
       no-17 : unentered N (note S) ≡ none
@@ -130,18 +106,19 @@ module _ (𝓐 : Algebra) where
           go none q = refl
           go (some i) q = absurd (let z : _≡_ {A = ℕ} 17 18 = cuts 0 17 i (rw q refl) in omega arith)
 
-      no-19 : 0 < length (own-boxes N) → clashing ≡ none
+      no-19 : 0 < length (ownBoxes N) → clashing ≡ none
       unfolding cut
       no-19 l = go clashing refl
         where
           go : (o : Option ℕ) → clashing ≡ o → o ≡ none
           go none q = refl
-          go (some i) q = let f = own-numbered (own-boxes N) l in absurd (let z : _≡_ {A = ℕ} 19 18 = cuts (f .0) 19 i (rw (no-17, f .1, q) refl) in omega arith)
+          go (some i) q = let f = own-numbered (ownBoxes N) l in absurd
+              (let z : _≡_ {A = ℕ} 19 18 = cuts (f .0) 19 i (rw (no-17, f .1, q) refl) in omega arith)
 
     pub cuts-fits : (B : Bounds) → Sound B N → Cuts 𝓐 N S ↔ Fits N S
     cuts-fits B sound = (
       λ h. none-fits (no-17 h) (no-19 h (sound .some-own)),
-      λ h k at place e. only-18 k (any (numbered N S k) (own-boxes N)) at place (sym (cut-answer h k) ∙ e),
+      λ h k at place e. only-18 k (any (numbered N S k) (ownBoxes N)) at place (sym (cut-answer h k) ∙ e),
     )
       where
         only-18 : (k : ℕ) (t : Bool) (at place : ℕ) → refuse 18 (cond t none (some k)) (given (fragment N S k)) ≡ refused at place → at ≡ 18

@@ -2,127 +2,135 @@
 --     piece-id, pieces-rise, box-piece        its boxes
 --     own-boxes-fragment, own-kept, kept-own      its own boxes
 --     inputs-kept, kept-inputs                its inputs
---     wires-into-fragment, sends-fragment     its wires
+--     sends-fragment, wires-into-fragment     its wires
 use mathlib.Core.Path.{_≡_, refl, sym, ap, _∙_, subst}
-use mathlib.Core.Bool.{Bool, true, false, cond, _&&_, and-comm}
+use mathlib.Core.Bool.{Bool, true, false, cond, and-comm}
 use mathlib.Core.Option.{Option, none, some, Option·map, bind}
-use mathlib.Core.List.{List, map, filterMap, filterMap-filterMap}
+use mathlib.Core.List.{map, filterMap-filterMap}
 use Prim.Native.Nat.{ℕ}
 use lib.Dec.{eqb}
 use borrow.Author.Tests.{eqb-true}
 use Rattle.lists.specs.Test.{and-absorb}
-use Rattle.lists.specs.All.{All, all-map, all-both, all-of, any, any-congr}
+use Rattle.lists.specs.All.{All, all-map, all-both, all-of, any-congr}
 use Rattle.lists.specs.Filter.{some-inj, none-some, filter, filter-filter, filter-congr, any-filter, all-filter, filtered-all, all-mapped, mapped-all, map-filter, filterMap-congr, all-filterMap, filterMap-all}
 use Rattle.lists.specs.Sorted.{Rises, rises-filterMap, find-filterMap}
-use Rattle.networks.specs.Network.{Own, Input, Box, own, input, Wire, Network, box-id, as-own, as-input, own-boxes, inputs, box, wires-into}
+use Rattle.networks.specs.Network.{Own, Input, Box, own, input, Wire, Network, boxId, asOwn, asInput, ownBoxes, inputs, box, wiresInto}
 use Rattle.networks.specs.Sound.{sends}
 use Rattle.networks.specs.Sheets.{Sheet, number, note}
-use Rattle.networks.specs.Cut.{leaves, feeds, promising, assuming, piece, fragment-of}
+use Rattle.networks.specs.Cut.{feeds, promising, assuming, piece, fragmentOf}
 
 module _ {R P D : Type 0} (N : Network R P D) (S : Sheet R) (κ : ℕ → Bool) where
   -- what is kept of a box has its id
-  pub piece-id : (v w : Box R D) → piece N S κ v ≡ some w → box-id w ≡ box-id v
+  pub piece-id : (v w : Box R D) → piece N S κ v ≡ some w → boxId w ≡ boxId v
   piece-id (own b) w e = go (κ (number S (b .id))) (feeds N S κ (b .id)) (note S (b .id)) e
     where
-      go : (s t : Bool) (n : Option R) → cond s (some (own (promising N S b))) (cond t (Option·map (assuming b) n) none) ≡ some w → box-id w ≡ b .id
-      go true t n q = ap box-id (sym (some-inj q))
-      go false true (some n) q = ap box-id (sym (some-inj q))
+      go : (s t : Bool) (n : Option R) → cond s (some (own (promising N S b))) (cond t (Option·map (assuming b) n) none) ≡ some w → boxId w ≡ b .id
+      go true t n q = ap boxId (sym (some-inj q))
+      go false true (some n) q = ap boxId (sym (some-inj q))
       go false true none q = absurd (none-some q)
       go false false n q = absurd (none-some q)
   piece-id (input a) w e = go (feeds N S κ (a .id)) e
     where
-      go : (t : Bool) → cond t (some (input a)) none ≡ some w → box-id w ≡ a .id
-      go true q = ap box-id (sym (some-inj q))
+      go : (t : Bool) → cond t (some (input a)) none ≡ some w → boxId w ≡ a .id
+      go true q = ap boxId (sym (some-inj q))
       go false q = absurd (none-some q)
 
-  pub pieces-rise : Rises box-id 0 (N .boxes) → Rises box-id 0 (fragment-of N S κ .boxes)
-  unfolding fragment-of
-  pieces-rise = rises-filterMap box-id box-id (piece N S κ) piece-id 0 (N .boxes)
+  pub pieces-rise : Rises boxId 0 (N .boxes) → Rises boxId 0 (fragmentOf N S κ .boxes)
+  unfolding fragmentOf
+  pieces-rise = rises-filterMap boxId boxId (piece N S κ) piece-id 0 (N .boxes)
 
-  pub box-piece : Rises box-id 0 (N .boxes) → (i : ℕ) → box (fragment-of N S κ) i ≡ bind (box N i) (piece N S κ)
-  unfolding fragment-of
-  box-piece rise i = find-filterMap box-id box-id (piece N S κ) piece-id i 0 (N .boxes) rise
+  pub box-piece : Rises boxId 0 (N .boxes) → (i : ℕ) → box (fragmentOf N S κ) i ≡ bind (box N i) (piece N S κ)
+  unfolding fragmentOf
+  box-piece rise i = find-filterMap boxId boxId (piece N S κ) piece-id i 0 (N .boxes) rise
 
   -- own boxes
   abbrev mine : Own R D → Bool
   mine b = κ (number S (b .id))
 
-  own-piece : (v : Box R D) → bind (piece N S κ v) as-own ≡ bind (as-own v) (λ (b : Own R D). cond (mine b) (some (promising N S b)) none)
+  own-piece : (v : Box R D) → bind (piece N S κ v) asOwn ≡ bind (asOwn v) (λ (b : Own R D). cond (mine b) (some (promising N S b)) none)
   unfolding bind
   own-piece (own b) = go (mine b) (feeds N S κ (b .id)) (note S (b .id))
     where
-      go : (s t : Bool) (n : Option R) → bind (cond s (some (own (promising N S b))) (cond t (Option·map (assuming b) n) none)) as-own ≡ cond s (some (promising N S b)) none
+      go : (s t : Bool) (n : Option R) → bind (cond s (some (own (promising N S b))) (cond t (Option·map (assuming b) n) none)) asOwn ≡ cond s
+          (some (promising N S b)) none
       go true t n = refl
       go false true (some n) = refl
       go false true none = refl
       go false false n = refl
   own-piece (input a) = go (feeds N S κ (a .id))
     where
-      go : (t : Bool) → bind {A = Box R D} (cond t (some (input a)) none) as-own ≡ none
+      go : (t : Bool) → bind {A = Box R D} (cond t (some (input a)) none) asOwn ≡ none
       go true = refl
       go false = refl
 
   -- a fragment's own boxes are those with its numbers, each promising its note where a cut wire leaves it
-  pub own-boxes-fragment : own-boxes (fragment-of N S κ) ≡ map (promising N S) (filter (λ (b : Own R D). κ (number S (b .id))) (own-boxes N))
-  unfolding fragment-of
+  pub own-boxes-fragment : ownBoxes (fragmentOf N S κ) ≡ map (promising N S) (filter (λ (b : Own R D). κ (number S (b .id))) (ownBoxes N))
+  unfolding fragmentOf
   own-boxes-fragment =
-      filterMap-filterMap (piece N S κ) as-own (N .boxes)
+      filterMap-filterMap (piece N S κ) asOwn (N .boxes)
       ∙ filterMap-congr _ _ (N .boxes) (all-of (N .boxes) own-piece)
-      ∙ sym (filterMap-filterMap as-own (λ (b : Own R D). cond (mine b) (some (promising N S b)) none) (N .boxes))
-      ∙ sym (map-filter (promising N S) mine (own-boxes N))
+      ∙ sym (filterMap-filterMap asOwn (λ (b : Own R D). cond (mine b) (some (promising N S b)) none) (N .boxes))
+      ∙ sym (map-filter (promising N S) mine (ownBoxes N))
 
-  pub own-kept : (Q : Own R D → Type 0) → All (λ (b : Own R D). κ (number S (b .id)) ≡ true → Q (promising N S b)) (own-boxes N) → All Q (own-boxes (fragment-of N S κ))
-  own-kept Q h = rw own-boxes-fragment (all-mapped Q (promising N S) (filter mine (own-boxes N)) (all-filter (λ (b : Own R D). Q (promising N S b)) mine (own-boxes N) h))
+  pub own-kept : (Q : Own R D → Type 0) → All (λ (b : Own R D). κ (number S (b .id)) ≡ true → Q (promising N S b)) (ownBoxes N)
+      → All Q (ownBoxes (fragmentOf N S κ))
+  own-kept Q h = rw own-boxes-fragment (all-mapped Q (promising N S) (filter mine (ownBoxes N))
+      (all-filter (λ (b : Own R D). Q (promising N S b)) mine (ownBoxes N) h))
 
-  pub kept-own : (Q : Own R D → Type 0) → All Q (own-boxes (fragment-of N S κ)) → All (λ (b : Own R D). κ (number S (b .id)) ≡ true → Q (promising N S b)) (own-boxes N)
-  kept-own Q h = filtered-all (λ (b : Own R D). Q (promising N S b)) mine (own-boxes N) (mapped-all Q (promising N S) (filter mine (own-boxes N)) (rw own-boxes-fragment at h))
+  pub kept-own : (Q : Own R D → Type 0) → All Q (ownBoxes (fragmentOf N S κ))
+      → All (λ (b : Own R D). κ (number S (b .id)) ≡ true → Q (promising N S b)) (ownBoxes N)
+  kept-own Q h = filtered-all (λ (b : Own R D). Q (promising N S b)) mine (ownBoxes N)
+      (mapped-all Q (promising N S) (filter mine (ownBoxes N)) (rw own-boxes-fragment at h))
 
   -- inputs: those of the network that feed the fragment, and the own boxes of other numbers that do
   pub inputs-kept : (Q : Input R → Type 0)
       → All (λ (a : Input R). feeds N S κ (a .id) ≡ true → Q a) (inputs N)
-      → All (λ (b : Own R D). κ (number S (b .id)) ≡ false → feeds N S κ (b .id) ≡ true → (n : R) → note S (b .id) ≡ some n → Q (record { id = b .id; assumed = n })) (own-boxes N)
-      → All Q (inputs (fragment-of N S κ))
-  unfolding fragment-of
-  inputs-kept Q h k = all-filterMap Q as-input _ (all-filterMap _ (piece N S κ) (N .boxes)
-      (all-map (N .boxes) at (all-both _ _ (N .boxes) (filterMap-all _ as-input (N .boxes) h) (filterMap-all _ as-own (N .boxes) k))))
+      → All (λ (b : Own R D). κ (number S (b .id)) ≡ false → feeds N S κ (b .id) ≡ true → (n : R) → note S (b .id) ≡ some n
+      → Q (record { id = b .id; assumed = n })) (ownBoxes N)
+      → All Q (inputs (fragmentOf N S κ))
+  unfolding fragmentOf
+  inputs-kept Q h k = all-filterMap Q asInput _ (all-filterMap _ (piece N S κ) (N .boxes)
+      (all-map (N .boxes) at (all-both _ _ (N .boxes) (filterMap-all _ asInput (N .boxes) h) (filterMap-all _ asOwn (N .boxes) k))))
     where
       at : (v : Box R D)
-          → ((a : Input R) → as-input v ≡ some a → feeds N S κ (a .id) ≡ true → Q a)
-          × ((b : Own R D) → as-own v ≡ some b → κ (number S (b .id)) ≡ false → feeds N S κ (b .id) ≡ true → (n : R) → note S (b .id) ≡ some n → Q (record { id = b .id; assumed = n }))
-          → (w : Box R D) → piece N S κ v ≡ some w → (a : Input R) → as-input w ≡ some a → Q a
+          → ((a : Input R) → asInput v ≡ some a → feeds N S κ (a .id) ≡ true → Q a)
+          × ((b : Own R D) → asOwn v ≡ some b → κ (number S (b .id)) ≡ false → feeds N S κ (b .id) ≡ true → (n : R) → note S (b .id) ≡ some n
+          → Q (record { id = b .id; assumed = n }))
+          → (w : Box R D) → piece N S κ v ≡ some w → (a : Input R) → asInput w ≡ some a → Q a
       at (input c) f w e a q = go (feeds N S κ (c .id)) refl e
         where
           go : (t : Bool) → feeds N S κ (c .id) ≡ t → cond t (some (input c)) none ≡ some w → Q a
-          go true s z = subst Q (some-inj (ap as-input (some-inj z) ∙ q)) (f .0 c refl s)
+          go true s z = subst Q (some-inj (ap asInput (some-inj z) ∙ q)) (f .0 c refl s)
           go false s z = absurd (none-some z)
       at (own b) f w e a q = go (mine b) refl (feeds N S κ (b .id)) refl (note S (b .id)) refl e
         where
           go : (s : Bool) → mine b ≡ s → (t : Bool) → feeds N S κ (b .id) ≡ t → (n : Option R) → note S (b .id) ≡ n
               → cond s (some (own (promising N S b))) (cond t (Option·map (assuming b) n) none) ≡ some w → Q a
-          go true s t u n m z = absurd (none-some (ap as-input (some-inj z) ∙ q))
-          go false s true u (some n) m z = subst Q (some-inj (ap as-input (some-inj z) ∙ q)) (f .1 b refl s u n m)
+          go true s t u n m z = absurd (none-some (ap asInput (some-inj z) ∙ q))
+          go false s true u (some n) m z = subst Q (some-inj (ap asInput (some-inj z) ∙ q)) (f .1 b refl s u n m)
           go false s true u none m z = absurd (none-some z)
           go false s false u n m z = absurd (none-some z)
 
-  pub kept-inputs : (Q : Input R → Type 0) → All Q (inputs (fragment-of N S κ)) → All (λ (a : Input R). feeds N S κ (a .id) ≡ true → Q a) (inputs N)
-  unfolding fragment-of
-  kept-inputs Q h = all-filterMap _ as-input (N .boxes) (all-map (N .boxes) at (filterMap-all _ (piece N S κ) (N .boxes) (filterMap-all Q as-input _ h)))
+  pub kept-inputs : (Q : Input R → Type 0) → All Q (inputs (fragmentOf N S κ)) → All (λ (a : Input R). feeds N S κ (a .id) ≡ true → Q a) (inputs N)
+  unfolding fragmentOf
+  kept-inputs Q h = all-filterMap _ asInput (N .boxes)
+      (all-map (N .boxes) at (filterMap-all _ (piece N S κ) (N .boxes) (filterMap-all Q asInput _ h)))
     where
-      at : (v : Box R D) → ((w : Box R D) → piece N S κ v ≡ some w → (a : Input R) → as-input w ≡ some a → Q a)
-          → (a : Input R) → as-input v ≡ some a → feeds N S κ (a .id) ≡ true → Q a
+      at : (v : Box R D) → ((w : Box R D) → piece N S κ v ≡ some w → (a : Input R) → asInput w ≡ some a → Q a)
+          → (a : Input R) → asInput v ≡ some a → feeds N S κ (a .id) ≡ true → Q a
       at (own b) f a e t = absurd (none-some e)
       at (input c) f a e t = subst Q (some-inj e) (f (input c) (rw (ap (λ (d : Input R). feeds N S κ (d .id)) (some-inj e) ∙ t) refl) c refl)
 
-  -- wires
-  pub wires-into-fragment : (i : ℕ) → κ (number S i) ≡ true → wires-into (fragment-of N S κ) i ≡ wires-into N i
-  unfolding fragment-of
-  wires-into-fragment i t =
-      filter-filter (λ (w : Wire). κ (number S (w .to))) (λ (w : Wire). eqb (w .to) i) (N .wires)
-      ∙ filter-congr _ _ (N .wires) (all-of (N .wires) (λ w. and-absorb _ _ (λ e. ap (λ (j : ℕ). κ (number S j)) (eqb-true (w .to) i e) ∙ t)))
-
-  -- a wire of the fragment leads out of exactly the boxes that feed it
-  pub sends-fragment : (i : ℕ) → sends (fragment-of N S κ) i ≡ feeds N S κ i
-  unfolding fragment-of feeds
+  -- wires: one of the fragment leads out of exactly the boxes that feed it
+  pub sends-fragment : (i : ℕ) → sends (fragmentOf N S κ) i ≡ feeds N S κ i
+  unfolding fragmentOf feeds
   sends-fragment i =
       any-filter (λ (w : Wire). κ (number S (w .to))) (λ (w : Wire). eqb (w .from) i) (N .wires)
       ∙ any-congr _ _ (N .wires) (all-of (N .wires) (λ w. and-comm (κ (number S (w .to))) (eqb (w .from) i)))
+
+  -- an own box keeps its wires
+  pub wires-into-fragment : (i : ℕ) → κ (number S i) ≡ true → wiresInto (fragmentOf N S κ) i ≡ wiresInto N i
+  unfolding fragmentOf
+  wires-into-fragment i t =
+      filter-filter (λ (w : Wire). κ (number S (w .to))) (λ (w : Wire). eqb (w .to) i) (N .wires)
+      ∙ filter-congr _ _ (N .wires) (all-of (N .wires) (λ w. and-absorb _ _ (λ e. ap (λ (j : ℕ). κ (number S j)) (eqb-true (w .to) i e) ∙ t)))

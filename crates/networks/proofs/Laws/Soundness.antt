@@ -1,0 +1,55 @@
+-- A fragment of a sound network is sound where the sheet has every entry and some own box is in it.
+--     fragment-less      it has no more boxes, wires and policies
+--     fragment-sound     it is sound
+use mathlib.Core.Path.{_≡_, _∙_}
+use mathlib.Core.Bool.{Bool, true}
+use Prim.Native.Nat.{ℕ, _<_}
+use native.Mathlib.Omega.{arith}
+use lib.ListN.{length, length-map}
+use Rattle.lists.specs.All.{All, all-map, all-of, any}
+use Rattle.lists.specs.Filter.{filter, filter-some, length-filter, length-filterMap, all-filterMap}
+use Rattle.lists.specs.Sorted.{rises-filter}
+use Rattle.networks.specs.Network.{Input, Box, Wire, Network, ids, wireKey, boxId, ownBoxes, inputs}
+use Rattle.networks.specs.Sound.{Bounds, Sound, NoMore, sends}
+use Rattle.networks.specs.Sheets.{Sheet, number, note}
+use Rattle.networks.specs.Answer.{Entered}
+use Rattle.networks.specs.Cut.{only, promising, piece, fragmentOf, fragment, numbered}
+use Rattle.networks.proofs.Laws.Pieces.{piece-id, own-boxes-fragment, inputs-kept, sends-fragment}
+use Rattle.networks.proofs.Laws.Formed.{sound-formed, fragment-formed}
+
+module _ {R P D : Type 0} (N : Network R P D) (S : Sheet R) where
+  pub fragment-less : (κ : ℕ → Bool) → NoMore (fragmentOf N S κ) N
+  unfolding fragmentOf
+  fragment-less κ = record {
+    boxes = length-filterMap (piece N S κ) (N .boxes);
+    wires = length-filter (λ (w : Wire). κ (number S (w .to))) (N .wires);
+    policies = omega arith;
+  }
+
+  some-kept : (k : ℕ) → any (numbered N S k) (ownBoxes N) ≡ true → 0 < length (ownBoxes (fragment N S k))
+  some-kept k t = rw (own-boxes-fragment N S (only k), length-map (filter (numbered N S k) (ownBoxes N)) (promising N S))
+      (filter-some (numbered N S k) (ownBoxes N) t)
+
+  -- an input is kept because it feeds the fragment
+  inputs-send : (κ : ℕ → Bool) → All (λ (a : Input R). sends (fragmentOf N S κ) (a .id) ≡ true) (inputs (fragmentOf N S κ))
+  inputs-send κ = inputs-kept N S κ (λ (a : Input R). sends (fragmentOf N S κ) (a .id) ≡ true)
+      (all-of (inputs N) (λ a t. sends-fragment N S κ (a .id) ∙ t))
+      (all-of (ownBoxes N) (λ b s t n e. sends-fragment N S κ (b .id) ∙ t))
+
+  pub fragment-sound : (B : Bounds) (k : ℕ) → Sound B N → Entered N (note S) → any (numbered N S k) (ownBoxes N) ≡ true → Sound B (fragment N S k)
+  unfolding fragmentOf
+  fragment-sound B k sound entered some-numbered =
+      let less = fragment-less (only k) in
+      let formed = fragment-formed N S (sound-formed B N sound) (only k) entered in
+      record {
+        boxes-within = omega (arith, less .boxes, sound .boxes-within);
+        wires-within = omega (arith, less .wires, sound .wires-within);
+        policies-within = sound .policies-within;
+        ids-within = all-filterMap (λ (v : Box R D). boxId v < ids) (piece N S (only k)) (N .boxes)
+            (all-map (N .boxes) (λ v l w e. rw (piece-id N S (only k) v w e) l) (sound .ids-within));
+        boxes-rise = formed .rise;
+        some-own = some-kept k some-numbered;
+        wires-rise = rises-filter wireKey _ 0 (N .wires) (sound .wires-rise);
+        wires-joined = formed .joined;
+        inputs-used = inputs-send (only k);
+      }
