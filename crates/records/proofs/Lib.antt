@@ -1,0 +1,3 @@
+pub mod LayoutLaws
+pub mod EntryLaws
+pub mod EntryRefusals
