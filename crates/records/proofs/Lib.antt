@@ -1,3 +1,4 @@
 pub mod LayoutLaws
+pub mod NodeLaws
 pub mod EntryLaws
 pub mod EntryRefusals

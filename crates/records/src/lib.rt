@@ -4,10 +4,15 @@
 // for the whole record.
 mod entries;
 mod layout;
+mod nodes;
 
 pub use entries::check_list;
 pub use entries::check_sheet;
+pub use layout::edge_offset;
 pub use layout::entry_offset;
+pub use layout::node_offset;
+pub use layout::node_part;
+pub use layout::policy_offset;
 
 // What the version of a record decides: the bytes of a route, and the greatest number of nodes and of entries.
 pub struct Form {

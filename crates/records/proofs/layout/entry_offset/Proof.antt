@@ -6,15 +6,15 @@ use Rattle.records.proofs.layout.entry_offset.Reads as reads
 use Rattle.records.proofs.layout.entry_offset.Lts as lts
 use Rattle.records.proofs.layout.stride.Reads as stride-reads
 
--- src/layout.rt:22:15
+-- src/layout.rt:25:15
 add-stride : tie.Need-add-stride
 add-stride c = search needs
 
--- src/layout.rt:22:5
+-- src/layout.rt:25:5
 stride-requires : tie.Need-stride-requires
 stride-requires c κs = search needs
 
--- src/layout.rt:18:1
+-- src/layout.rt:21:1
 returns : tie.Need-returns
 returns c = search entry-offset
 

@@ -5,15 +5,15 @@ use Rattle.records.proofs.layout.stride.Tie as tie
 use Rattle.records.proofs.layout.stride.Reads as reads
 use Rattle.records.proofs.layout.stride.Lts as lts
 
--- src/layout.rt:14:12
+-- src/layout.rt:17:12
 mul-result : tie.Need-mul-result
 mul-result c = search (needs, striding)
 
--- src/layout.rt:14:5
+-- src/layout.rt:17:5
 add-result : tie.Need-add-result
 add-result c = search (needs, striding)
 
--- src/layout.rt:10:1
+-- src/layout.rt:13:1
 returns : tie.Need-returns
 returns c = search (needs, striding)
 
