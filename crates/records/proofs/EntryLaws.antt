@@ -12,12 +12,12 @@ use mir.Syntax.{w64}
 use mir.Val.{Fits}
 use borrow.Author.Tests.{ne-eqb, not-true, not-false}
 use Rattle.lists.specs.First.{firstBad}
-use Rattle.lists.specs.Stride.{at-zero, at-next, at-fits}
 use Rattle.lists.specs.Walk.{Climb, climb-start, climb-next, climb-low, climb-ill, climb-end}
 use Rattle.numbers.specs.BigEndian.{u16At}
 use Rattle.routes.specs.Form.{routeFormed}
-use Rattle.records.specs.Form.{Usable, entryWidth}
+use Rattle.records.specs.Form.{Usable}
 use Rattle.records.specs.Entries.{entryOffset, entryId, fragmentFormed, entryFormed, entryOk}
+use Rattle.records.specs.Offsets.{entry-first, entry-after, entry-within}
 use Rattle.records.specs.declared.Form.{Form}
 
 module _ (f : Form) (lead : ℕ) (b : List ℕ) (o : ℕ) where
@@ -48,8 +48,7 @@ Entering f lead b n i o low = Climb (entryId f lead b) (entryOffset f lead) (ent
 
 module _ (f : Form) (lead : ℕ) (b : List ℕ) (n : ℕ) where
   pub entry-start : Entering f lead b n 0 7 0
-  unfolding entryOffset
-  entry-start = climb-start _ _ _ n 7 (sym (at-zero 7 (entryWidth f lead)))
+  entry-start = climb-start _ _ _ n 7 (sym (entry-first f lead))
 
   module _ (i o low : ℕ) (c : Entering f lead b n i o low) where
     pub entry-end : n ≤ i → i ≡ firstBad (entryOk f lead b) n
@@ -66,24 +65,23 @@ module _ (f : Form) (lead : ℕ) (b : List ℕ) (n : ℕ) where
         entry-ill y = climb-ill _ _ _ (entryFormed f lead b) (λ k. refl) n i o low c l t h y
 
         pub entry-next : (id : ℕ) → id ≡ u16At b o → low ≤ id → not t ≡ false → Entering f lead b n (i + 1) (o + (lead + f .route)) (id + 1)
-        unfolding entryOk entryId entryOffset entryWidth
+        unfolding entryOk entryId
         entry-next id e m y =
             let here = c .walk .here in
             climb-next _ _ _ (entryFormed f lead b) (λ k. refl) n i o low c l t h id (o + (lead + f .route))
-            (e ∙ ap (u16At b) here) m y (omega (arith, at-next 7 (lead + f .route) i))
+            (e ∙ ap (u16At b) here) m y (omega (arith, entry-after f lead i))
 
       -- the entry at hand lies within the n entries
       module _ (r : entryOffset f lead n ≤ length b) where
-        pub entry-room : o + (lead + f .route) ≤ length b
-        unfolding entryOffset entryWidth
-        entry-room = let here = c .walk .here in omega (arith, at-fits 7 (lead + f .route) i n l)
+        pub entry-here : o + (lead + f .route) ≤ length b
+        entry-here = let here = c .walk .here in omega (arith, entry-within f lead i n l)
 
         pub entry-id-room : Usable f → 2 ≤ lead → o + 2 ≤ length b
-        entry-id-room u h = let w = u .wide in omega (arith, entry-room)
+        entry-id-room u h = let w = u .wide in omega (arith, entry-here)
 
         pub entry-fits : length b < 2 ^ 64 → Fits w64 (o + (lead + f .route))
-        entry-fits g = omega (arith, entry-room)
+        entry-fits g = omega (arith, entry-here)
 
 pub ruleset entering = (entry-start, entry-end, entry-low, entry-ill, entry-next)
 
-pub ruleset entry-rooms = (entry-room, entry-id-room, entry-fits)
+pub ruleset entry-rooms = (entry-here, entry-id-room, entry-fits)

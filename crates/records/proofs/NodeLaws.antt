@@ -13,13 +13,12 @@ use mir.Syntax.{w64}
 use mir.Val.{Fits}
 use borrow.Author.Tests.{eq-eqb, ne-eqb, not-true, not-false}
 use Rattle.lists.specs.First.{firstBad}
-use Rattle.lists.specs.Stride.{at-zero, at-next, at-fits}
 use Rattle.lists.specs.Walk.{Climb, climb-start, climb-next, climb-low, climb-ill, climb-end}
 use Rattle.numbers.specs.BigEndian.{u16At}
 use Rattle.routes.specs.Form.{zeros, routeFormed}
-use Rattle.records.specs.Form.{Usable, nodeWidth}
 use Rattle.records.specs.Layout.{nodePart, nodeOffset}
 use Rattle.records.specs.Node.{kindFormed, promiseFormed, demandFormed, nodeFormed, nodeId, nodeOk}
+use Rattle.records.specs.Offsets.{node-first, node-after, node-within}
 use Rattle.records.specs.declared.Form.{Form}
 
 module _ (w : ℕ) (b : List ℕ) (o : ℕ) where
@@ -97,8 +96,7 @@ Noding f b n i o low = Climb (nodeId f b) (nodeOffset f b) (nodeOk f b) n i o lo
 
 module _ (f : Form) (b : List ℕ) (n : ℕ) where
   pub node-start : (o : ℕ) → o ≡ nodePart b → Noding f b n 0 o 0
-  unfolding nodeOffset
-  node-start o e = climb-start _ _ _ n o (e ∙ sym (at-zero (nodePart b) (nodeWidth f)))
+  node-start o e = climb-start _ _ _ n o (e ∙ sym (node-first f b))
 
   module _ (i o low : ℕ) (c : Noding f b n i o low) where
     pub node-end : n ≤ i → i ≡ firstBad (nodeOk f b) n
@@ -115,24 +113,23 @@ module _ (f : Form) (b : List ℕ) (n : ℕ) where
         node-ill y = climb-ill _ _ _ (nodeFormed (f .route) b) (λ k. refl) n i o low c l t h y
 
         pub node-next : (id : ℕ) → id ≡ u16At b o → low ≤ id → not t ≡ false → Noding f b n (i + 1) (o + (9 + f .route + f .route)) (id + 1)
-        unfolding nodeOk nodeId nodeOffset nodeWidth
+        unfolding nodeOk nodeId
         node-next id e m y =
             let here = c .walk .here in
             climb-next _ _ _ (nodeFormed (f .route) b) (λ k. refl) n i o low c l t h id (o + (9 + f .route + f .route))
-            (e ∙ ap (u16At b) here) m y (omega (arith, at-next (nodePart b) (9 + f .route + f .route) i))
+            (e ∙ ap (u16At b) here) m y (omega (arith, node-after f b i))
 
       -- the node at hand lies within the n nodes
       module _ (r : nodeOffset f b n ≤ length b) where
-        pub node-room : o + (9 + f .route + f .route) ≤ length b
-        unfolding nodeOffset nodeWidth
-        node-room = let here = c .walk .here in omega (arith, at-fits (nodePart b) (9 + f .route + f .route) i n l)
+        pub node-here : o + (9 + f .route + f .route) ≤ length b
+        node-here = let here = c .walk .here in omega (arith, node-within f b i n l)
 
         pub node-id-room : o + 2 ≤ length b
-        node-id-room = omega (arith, node-room)
+        node-id-room = omega (arith, node-here)
 
         pub node-fits : length b < 2 ^ 64 → Fits w64 (o + (9 + f .route + f .route))
-        node-fits g = omega (arith, node-room)
+        node-fits g = omega (arith, node-here)
 
 pub ruleset noding = (node-start, node-end, node-low, node-ill, node-next)
 
-pub ruleset node-rooms = (node-room, node-id-room, node-fits)
+pub ruleset node-rooms = (node-here, node-id-room, node-fits)

@@ -39,8 +39,9 @@ module _ (f : Form) (b : List ℕ) where
   abbrev pub total : ℕ
   total = edgeOffset (edgeCount b)
 
-  -- the record is as long as its counts say, and may be read
+  -- the record is as long as its counts say, and they are within their bounds
   pub record Room : Type 0 where
     pub usable : Usable f
     pub long : 10 ≤ length b
+    pub few : nodeCount b ≤ f .most
     pub whole : total ≤ length b

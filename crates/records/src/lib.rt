@@ -5,6 +5,8 @@
 mod entries;
 mod layout;
 mod nodes;
+mod policies;
+mod rows;
 
 pub use entries::check_list;
 pub use entries::check_sheet;
@@ -13,6 +15,9 @@ pub use layout::entry_offset;
 pub use layout::node_offset;
 pub use layout::node_part;
 pub use layout::policy_offset;
+pub use nodes::is_own;
+pub use nodes::node_id;
+pub use rows::fill_rows;
 
 // What the version of a record decides: the bytes of a route, and the greatest number of nodes and of entries.
 pub struct Form {

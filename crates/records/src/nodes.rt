@@ -4,9 +4,10 @@ ghost use Prim.Native.Nat.{_+_, _≤_, _<_};
 ghost use lib.ListN.{length};
 ghost use Rattle.lists.specs.First.{firstBad};
 ghost use Rattle.records.specs.Form.{Usable};
-ghost use Rattle.records.specs.Layout.{nodeOffset};
-ghost use Rattle.records.specs.Node.{kindFormed, promiseFormed, demandFormed, nodeFormed, nodeOk};
+ghost use Rattle.records.specs.Layout.{Room, nodeCount, nodeOffset};
+ghost use Rattle.records.specs.Node.{kindFormed, promiseFormed, demandFormed, nodeFormed, nodeId, nodeOk, isOwn, ownless};
 use crate::Form;
+use crate::layout::node_offset;
 use crate::layout::node_part;
 use numbers::u16_at;
 use routes::all_zero;
@@ -91,4 +92,38 @@ pub fn bad_node(form: Form, b: &[u8], n: usize) -> usize
         i += 1;
     }
     i
+}
+
+// The id of the i-th node.
+pub fn node_id(form: Form, b: &[u8], i: usize) -> u16
+    requires { ⌜ Room form (now b) × (i < nodeCount (now b)) ⌝ }
+    ensures { λ r. ⌜ r ≡ nodeId form (now (b .entry)) i ⌝ }
+{
+    u16_at(b, node_offset(form, b, i))
+}
+
+// Whether the i-th node is an own one.
+pub fn is_own(form: Form, b: &[u8], i: usize) -> bool
+    requires { ⌜ Room form (now b) × (i < nodeCount (now b)) ⌝ }
+    ensures { λ r. ⌜ r ≡ isOwn form (now (b .entry)) i ⌝ }
+{
+    match b[node_offset(form, b, i) + 2] {
+        0 => true,
+        _ => false,
+    }
+}
+
+// Whether no node is an own one.
+pub fn no_own(form: Form, b: &[u8], n: usize) -> bool
+    requires { ⌜ Room form (now b) × (n ≡ nodeCount (now b)) ⌝ }
+    ensures { λ r. ⌜ r ≡ ownless form (now (b .entry)) ⌝ }
+{
+    let mut i = 0;
+    while i < n {
+        if is_own(form, b, i) {
+            return false;
+        }
+        i += 1;
+    }
+    true
 }
