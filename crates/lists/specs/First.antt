@@ -11,6 +11,7 @@ use mathlib.Core.Path.{_≡_, refl, ap, sym, _∙_}
 use lib.Dec.{eqb}
 use borrow.Author.Count.{below-more}
 use borrow.Author.Tests.{eq-eqb, ne-eqb, eqb-true, eqb-false}
+use Rattle.lists.specs.Test.{and-l, and-r, and-i, same-test}
 
 unfoldable pub firstBad : (ℕ → Bool) → ℕ → ℕ
 firstBad ok zero = 0
@@ -76,6 +77,12 @@ every-no ok n i l h e = let f : firstBad ok n ≡ i = first-here ok n i l h e in
 pub every-all : (ok : ℕ → Bool) (n : ℕ) → every ok n ≡ true → (k : ℕ) → k < n → ok k ≡ true
 unfolding every
 every-all ok n e k l = let f : firstBad ok n ≡ n = eqb-true _ _ e in first-all ok n k (omega arith)
+
+pub every-next : (ok : ℕ → Bool) (n : ℕ) → every ok (n + 1) ≡ every ok n && ok n
+every-next ok n =
+    same-test (every ok (n + 1)) (every ok n && ok n)
+    (λ e. and-i (every ok n) (ok n) (every-yes ok n (λ k l. every-all ok (n + 1) e k (omega arith))) (every-all ok (n + 1) e n (omega arith)))
+    (λ e. every-yes ok (n + 1) (below-more (λ k. ok k ≡ true) n (every-all ok n (and-l (every ok n) (ok n) e)) (and-r (every ok n) (ok n) e)))
 
 -- where they do not all pass, one fails
 pub every-some : (ok : ℕ → Bool) (n : ℕ) → every ok n ≡ false → (i : ℕ) × ((i < n) × (ok i ≡ false))

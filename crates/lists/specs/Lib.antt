@@ -5,6 +5,8 @@ pub mod Filter
 pub mod Sorted
 pub mod First
 pub mod Rising
+pub mod Index
+pub mod Walk
 pub mod Stride
 pub mod Rows
 pub mod Table

@@ -32,11 +32,15 @@ module _ (f : Form) (b : List ℕ) where
   unfoldable pub owned : ℕ → Bool
   owned id = boxed id && isOwn f b (rowOf f b id)
 
-  -- the j-th edge is above the one before, both its ends exist and differ, the to end is own, and its policy exists
+  -- both ends of the edge at an offset exist and differ, the to end is own, and the policy exists
+  unfoldable pub edgeFormed : ℕ → Bool
+  edgeFormed o =
+      owned (u16At b o)
+      && (boxed (u16At b (o + 2)) && (not (eqb (u16At b o) (u16At b (o + 2))) && ltb (getD b (o + 4) 0) (policyCount b)))
+
+  -- the j-th edge is well formed, and above the one before
   unfoldable pub edgeOk : ℕ → Bool
-  edgeOk j =
-      leb (least edgeKey j) (edgeKey j)
-      && (owned (edgeTo j) && (boxed (edgeFrom j) && (not (eqb (edgeTo j) (edgeFrom j)) && ltb (edgePolicy j) (policyCount b))))
+  edgeOk j = leb (least edgeKey j) (edgeKey j) && edgeFormed (edgeOffset f b j)
 
   -- one of the first k edges leaves the node in row i
   unfoldable pub leftBy : ℕ → ℕ → Bool

@@ -4,7 +4,7 @@ use Prim.Native.Nat.{ℕ, _+_}
 use mathlib.Core.Bool.{Bool, true, cond, not, _&&_}
 use mathlib.Core.List.{List, [], _∷_}
 use lib.Dec.{eqb, leb, ltb}
-use lib.ListN.{length, getD}
+use lib.ListN.{length, getD, drop}
 use Rattle.lists.specs.First.{firstBad}
 use Rattle.lists.specs.Rising.{least, place}
 use Rattle.lists.specs.Stride.{at}
@@ -31,9 +31,12 @@ module _ (f : Form) (lead : ℕ) where
     unfoldable pub fragmentFormed : ℕ → Bool
     fragmentFormed o = cond (eqb lead sheetLead) (leb (getD b (o + 2) 0) 63) true
 
+    unfoldable pub entryFormed : ℕ → Bool
+    entryFormed o = fragmentFormed o && routeFormed (f .route) b (o + lead)
+
     -- the i-th entry is well formed, and its id is above the one before
     unfoldable pub entryOk : ℕ → Bool
-    entryOk i = leb (least entryId i) (entryId i) && (fragmentFormed (entryOffset i) && routeFormed (f .route) b (entryOffset i + lead))
+    entryOk i = leb (least entryId i) (entryId i) && entryFormed (entryOffset i)
 
     -- the row of the entry for an id, or the number of entries where there is none
     unfoldable pub entryOf : ℕ → ℕ
@@ -53,6 +56,10 @@ module _ (f : Form) (lead : ℕ) where
         (ltb (entryOffset (entryCount b)) (length b), refused 15 (entryOffset (entryCount b))) ∷
         (ltb badEntry (entryCount b), refused 16 (entryOffset badEntry)) ∷
         []
+
+    -- number and place of the first that applies of the rows from the k-th on, or 0
+    unfoldable pub entriesFrom : ℕ → Numbers
+    entriesFrom k = firstOf (drop k entriesTable) fine
 
 -- number and place of the first that applies, or 0
 unfoldable pub entriesRefusal : ℕ → List ℕ → Numbers

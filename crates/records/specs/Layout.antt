@@ -1,10 +1,10 @@
 -- Where the parts of a network record stand (document 01, 'Records'): after ten bytes the policies, the nodes, the edges.
-use Prim.Native.Nat.{ℕ}
+use Prim.Native.Nat.{ℕ, _≤_}
 use mathlib.Core.List.{List}
-use lib.ListN.{getD}
+use lib.ListN.{length, getD}
 use Rattle.lists.specs.Stride.{at}
 use Rattle.numbers.specs.BigEndian.{u16At}
-use Rattle.records.specs.Form.{nodeWidth}
+use Rattle.records.specs.Form.{Usable, nodeWidth}
 use Rattle.records.specs.declared.Form.{Form}
 
 module _ (b : List ℕ) where
@@ -38,3 +38,10 @@ module _ (f : Form) (b : List ℕ) where
 
   abbrev pub total : ℕ
   total = edgeOffset (edgeCount b)
+
+  -- the record is as long as its counts say, and they are within their bounds
+  pub record Room : Type 0 where
+    pub usable : Usable f
+    pub long : 10 ≤ length b
+    pub few : nodeCount b ≤ f .most
+    pub whole : total ≤ length b

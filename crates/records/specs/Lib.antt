@@ -5,6 +5,8 @@ pub mod Node
 pub mod Edge
 pub mod Numbers
 pub mod Network
+pub mod Rows
 pub mod Entries
 pub mod Cases
 pub mod Fine
+pub mod Offsets

@@ -3,7 +3,7 @@ use Prim.Native.Nat.{ℕ, _+_}
 use mathlib.Core.Bool.{Bool, not, _||_}
 use mathlib.Core.List.{List, [], _∷_}
 use lib.Dec.{eqb, ltb}
-use lib.ListN.{length, getD}
+use lib.ListN.{length, getD, drop}
 use Rattle.lists.specs.First.{firstBad}
 use Rattle.lists.specs.Test.{firstOf}
 use Rattle.numbers.specs.BigEndian.{u32At}
@@ -47,6 +47,10 @@ module _ (f : Form) (b : List ℕ) where
       (ltb badEdge (edgeCount b), refused 9 (edgeOffset f b badEdge)) ∷
       (ltb badInput (nodeCount b), refused 10 (nodeOffset f b badInput)) ∷
       []
+
+  -- number and place of the first that applies of the rows from the k-th on, or 0
+  unfoldable pub networkFrom : ℕ → Numbers
+  networkFrom k = firstOf (drop k networkTable) fine
 
 -- number and place of the first that applies, or 0
 unfoldable pub networkRefusal : List ℕ → Numbers

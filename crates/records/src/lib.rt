@@ -1,7 +1,23 @@
 // Records: every byte string is a network, a sheet or a route list, or is refused by number and place.
-ghost use mathlib.Core.Path.{_≡_};
-ghost use Rattle.records.specs.Network.{networkRefusal};
-ghost use Rattle.records.specs.Numbers.{checkNumbers};
+//
+// The checks have no `requires`. What reads a part of a record asks for the room that it touches, which a check has tested
+// for the whole record.
+mod entries;
+mod layout;
+mod nodes;
+mod policies;
+mod rows;
+
+pub use entries::check_list;
+pub use entries::check_sheet;
+pub use layout::edge_offset;
+pub use layout::entry_offset;
+pub use layout::node_offset;
+pub use layout::node_part;
+pub use layout::policy_offset;
+pub use nodes::is_own;
+pub use nodes::node_id;
+pub use rows::fill_rows;
 
 // What the version of a record decides: the bytes of a route, and the greatest number of nodes and of entries.
 pub struct Form {
