@@ -12,7 +12,7 @@ use Rattle.routes.specs.Form.{routeFormed}
 use Rattle.routes.specs.declared.Route.{Route}
 use Rattle.networks.specs.Sheets.{SheetEntry, ListEntry}
 use Rattle.records.specs.Form.{Usable, entryWidth, listLead, sheetLead}
-use Rattle.records.specs.Entries.{entryOk, fragmentFormed}
+use Rattle.records.specs.Entries.{entryOk, entryFormed, fragmentFormed}
 use Rattle.records.specs.declared.Form.{Form}
 use Rattle.reading.specs.Parts.{sheetEntryAt, listEntryAt}
 use Rattle.reading.proofs.RowCodecs.{sheet-entry, list-entry}
@@ -21,7 +21,7 @@ use Rattle.reading.proofs.EntryBytes.{Kind}
 module _ (f : Form) (usable : Usable f) where
   -- an entry of a sheet: its fragment number is at most 63
   unfoldable pub sheet-kind : Kind (SheetEntry Route) f sheetLead
-  unfolding entryWidth sheetEntryAt fragmentFormed entryOk
+  unfolding entryWidth sheetEntryAt fragmentFormed entryFormed entryOk
   sheet-kind = record {
     codec = sheet-entry (f .route) (usable .wide);
     id = λ (e : SheetEntry Route). e .id;
@@ -40,7 +40,7 @@ module _ (f : Form) (usable : Usable f) where
 
   -- an entry of a route list
   unfoldable pub list-kind : Kind (ListEntry Route) f listLead
-  unfolding entryWidth listEntryAt fragmentFormed entryOk
+  unfolding entryWidth listEntryAt fragmentFormed entryFormed entryOk
   list-kind = record {
     codec = list-entry (f .route) (usable .wide);
     id = λ (e : ListEntry Route). e .id;

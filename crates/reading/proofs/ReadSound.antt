@@ -22,7 +22,7 @@ use Rattle.numbers.proofs.Codecs.{u16-below}
 use Rattle.routes.specs.Form.{policyAt}
 use Rattle.routes.specs.declared.Demand.{Demand}
 use Rattle.routes.specs.declared.Route.{Route}
-use Rattle.networks.specs.Network.{Own, Input, Box, own, input, ids, wire-key, box-id, as-own, as-input, is-own, own-boxes, inputs}
+use Rattle.networks.specs.Network.{Own, Input, Box, own, input, ids, wireKey, boxId, asOwn, asInput, isOwn, ownBoxes, inputs}
 use Rattle.networks.specs.Sound.{Sound, Joined, sends}
 use Rattle.records.specs.Form.{nodeWidth}
 use Rattle.records.specs.Layout.{nodeCount, edgeCount, policyCount, nodePart, edgePart, nodeOffset, edgeOffset}
@@ -35,10 +35,10 @@ use Rattle.reading.specs.Whole.{HouseNetwork, bounds, readNetwork}
 use Rattle.reading.proofs.Said.{box-id-at, box-own-at, read-ids, read-keys, owns-read, has-box-read, own-read, sends-read, Edge, edge-parts}
 
 -- an own box among the boxes is one of the own boxes
-pub some-own-boxes : {R D : Type 0} (vs : List (Box R D)) → any (λ (v : Box R D). is-own (some v)) vs ≡ any (λ (o : Own R D). true) (filterMap as-own vs)
-some-own-boxes {R} {D} vs = any-congr _ _ vs (all-of vs same) ∙ sym (any-filterMap (λ (o : Own R D). true) as-own vs)
+pub some-own-boxes : {R D : Type 0} (vs : List (Box R D)) → any (λ (v : Box R D). isOwn (some v)) vs ≡ any (λ (o : Own R D). true) (filterMap asOwn vs)
+some-own-boxes {R} {D} vs = any-congr _ _ vs (all-of vs same) ∙ sym (any-filterMap (λ (o : Own R D). true) asOwn vs)
   where
-    same : (v : Box R D) → is-own (some v) ≡ holds (λ (o : Own R D). true) (as-own v)
+    same : (v : Box R D) → isOwn (some v) ≡ holds (λ (o : Own R D). true) (asOwn v)
     same (own v) = refl
     same (input v) = refl
 
@@ -46,7 +46,7 @@ pub any-length : {A : Type 0} (xs : List A) → any (λ (x : A). true) xs ≡ tr
 any-length [] h = absurd (false≢true h)
 any-length (x ∷ xs) h = omega arith
 
-pub input-is : (v : Box Route Demand) (a : Input Route) → as-input v ≡ some a → (a .id ≡ box-id v) × (is-own (some v) ≡ false)
+pub input-is : (v : Box Route Demand) (a : Input Route) → asInput v ≡ some a → (a .id ≡ boxId v) × (isOwn (some v) ≡ false)
 input-is (own v) a e = absurd (none-some e)
 input-is (input x) a e = (ap (λ (y : Input Route). y .id) (sym (some-inj e)), refl)
 
@@ -61,15 +61,15 @@ module _ (f : Form) (b : List ℕ) (small : Bytes b) (fine : NetworkFine f b) wh
   unfolding nodeOk
   ids-rise i l = leb-true _ _ (and-l (leb (least (nodeId f b) i) (nodeId f b i)) (nodeFormed (f .route) b (nodeOffset f b i)) (fine .nodes i l))
 
-  boxes-rise : Rises box-id 0 (N .boxes)
+  boxes-rise : Rises boxId 0 (N .boxes)
   unfolding readNetwork
-  boxes-rise = rises-rows box-id (boxAt (f .route) b) (nodeWidth f) (nodePart b) (nodeCount b) (λ i l. least-ext _ _ (λ k. sym (read-ids f b k)) i (ids-rise i l))
+  boxes-rise = rises-rows boxId (boxAt (f .route) b) (nodeWidth f) (nodePart b) (nodeCount b) (λ i l. least-ext _ _ (λ k. sym (read-ids f b k)) i (ids-rise i l))
 
-  wires-rise : Rises wire-key 0 (N .wires)
+  wires-rise : Rises wireKey 0 (N .wires)
   unfolding readNetwork
-  wires-rise = rises-rows wire-key (wireAt b) 5 (edgePart f b) (edgeCount b) (λ j l. least-ext _ _ (λ k. sym (read-keys f b k)) j (edge-tests j l .rises))
+  wires-rise = rises-rows wireKey (wireAt b) 5 (edgePart f b) (edgeCount b) (λ j l. least-ext _ _ (λ k. sym (read-keys f b k)) j (edge-tests j l .rises))
 
-  ids-within : All (λ (v : Box Route Demand). box-id v < ids) (N .boxes)
+  ids-within : All (λ (v : Box Route Demand). boxId v < ids) (N .boxes)
   unfolding readNetwork
   ids-within = all-rows (boxAt (f .route) b) (nodeWidth f) _ (nodePart b) (nodeCount b)
       (λ i l. let o = at (nodePart b) (nodeWidth f) i in rw (box-id-at (f .route) b o) (u16-below b o (small o, small (o + 1))))
@@ -97,11 +97,11 @@ module _ (f : Form) (b : List ℕ) (small : Bytes b) (fine : NetworkFine f b) wh
   unfolding readNetwork
   wires-joined = all-rows (wireAt b) 5 (Joined N) (edgePart f b) (edgeCount b) joined
 
-  some-own : 0 < length (own-boxes N)
-  some-own = any-length (own-boxes N) (sym (some-own-boxes (N .boxes)) ∙ own-read f b ∙ ap not (fine .own))
+  some-own : 0 < length (ownBoxes N)
+  some-own = any-length (ownBoxes N) (sym (some-own-boxes (N .boxes)) ∙ own-read f b ∙ ap not (fine .own))
 
   -- an input by its row: it is no own box, so that an edge leaves it
-  input-used : (i : ℕ) → i < nodeCount b → (a : Input Route) → as-input (boxAt (f .route) b (at (nodePart b) (nodeWidth f) i)) ≡ some a → sends N (a .id) ≡ true
+  input-used : (i : ℕ) → i < nodeCount b → (a : Input Route) → asInput (boxAt (f .route) b (at (nodePart b) (nodeWidth f) i)) ≡ some a → sends N (a .id) ≡ true
   unfolding inputOk leftBy ownRow nodeId nodeOffset
   input-used i l a e =
       let o = at (nodePart b) (nodeWidth f) i in
@@ -112,7 +112,7 @@ module _ (f : Form) (b : List ℕ) (small : Bytes b) (fine : NetworkFine f b) wh
 
   inputs-used : All (λ (a : Input Route). sends N (a .id) ≡ true) (inputs N)
   unfolding readNetwork
-  inputs-used = all-filterMap _ as-input (N .boxes) (all-rows (boxAt (f .route) b) (nodeWidth f) _ (nodePart b) (nodeCount b) input-used)
+  inputs-used = all-filterMap _ asInput (N .boxes) (all-rows (boxAt (f .route) b) (nodeWidth f) _ (nodePart b) (nodeCount b) input-used)
 
   pub read-sound : Sound (bounds f) N
   read-sound = record {

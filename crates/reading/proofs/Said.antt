@@ -21,62 +21,62 @@ use Rattle.lists.specs.Table.{keys, rowAt, find-rows, any-rows}
 use Rattle.numbers.specs.BigEndian.{u16At}
 use Rattle.routes.specs.declared.Demand.{Demand}
 use Rattle.routes.specs.declared.Route.{Route}
-use Rattle.networks.specs.Network.{Box, Wire, wire-key, box-id, is-box, is-own, has-box, owns}
+use Rattle.networks.specs.Network.{Box, Wire, wireKey, boxId, isBox, isOwn, hasBox, owns}
 use Rattle.networks.specs.Sound.{sends}
 use Rattle.records.specs.Form.{nodeWidth}
 use Rattle.records.specs.Layout.{nodeCount, edgeCount, policyCount, nodePart, edgePart, nodeOffset, edgeOffset}
 use Rattle.records.specs.Node.{nodeId, rowOf, ownless, isOwn as ownRow}
-use Rattle.records.specs.Edge.{edgeTo, edgeFrom, edgePolicy, edgeKey, boxed, owned, edgeOk}
+use Rattle.records.specs.Edge.{edgeTo, edgeFrom, edgePolicy, edgeKey, boxed, owned, edgeFormed, edgeOk}
 use Rattle.records.specs.declared.Form.{Form}
 use Rattle.reading.specs.Parts.{boxAt, wireAt}
 use Rattle.reading.specs.Whole.{HouseNetwork, readNetwork}
 
 -- a box's id and kind are the bytes' own
-pub box-id-at : (w : ℕ) (b : List ℕ) (o : ℕ) → box-id (boxAt w b o) ≡ u16At b o
+pub box-id-at : (w : ℕ) (b : List ℕ) (o : ℕ) → boxId (boxAt w b o) ≡ u16At b o
 unfolding boxAt
-box-id-at w b o = cond-ap box-id (eqb (getD b (o + 2) 0) 0) _ _ ∙ cond-same (eqb (getD b (o + 2) 0) 0) (u16At b o)
+box-id-at w b o = cond-ap boxId (eqb (getD b (o + 2) 0) 0) _ _ ∙ cond-same (eqb (getD b (o + 2) 0) 0) (u16At b o)
 
-pub box-own-at : (w : ℕ) (b : List ℕ) (o : ℕ) → is-own (some (boxAt w b o)) ≡ eqb (getD b (o + 2) 0) 0
+pub box-own-at : (w : ℕ) (b : List ℕ) (o : ℕ) → isOwn (some (boxAt w b o)) ≡ eqb (getD b (o + 2) 0) 0
 unfolding boxAt
-box-own-at w b o = cond-ap (λ (v : Box Route Demand). is-own (some v)) (eqb (getD b (o + 2) 0) 0) _ _ ∙ cond-test (eqb (getD b (o + 2) 0) 0)
+box-own-at w b o = cond-ap (λ (v : Box Route Demand). isOwn (some v)) (eqb (getD b (o + 2) 0) 0) _ _ ∙ cond-test (eqb (getD b (o + 2) 0) 0)
 
 module _ (f : Form) (b : List ℕ) where
   abbrev N : HouseNetwork
   N = readNetwork f b
 
   -- the i-th box's id, and the j-th wire's key
-  pub read-ids : (i : ℕ) → keys box-id (boxAt (f .route) b) (nodeWidth f) (nodePart b) i ≡ nodeId f b i
+  pub read-ids : (i : ℕ) → keys boxId (boxAt (f .route) b) (nodeWidth f) (nodePart b) i ≡ nodeId f b i
   unfolding nodeId nodeOffset
   read-ids i = box-id-at (f .route) b (at (nodePart b) (nodeWidth f) i)
 
-  pub read-keys : (j : ℕ) → keys wire-key (wireAt b) 5 (edgePart f b) j ≡ edgeKey f b j
+  pub read-keys : (j : ℕ) → keys wireKey (wireAt b) 5 (edgePart f b) j ≡ edgeKey f b j
   unfolding wireAt edgeKey edgeTo edgeFrom edgeOffset
   read-keys j = refl
 
   -- the box with an id is the one in its row
-  pub read-find : (x : ℕ) → find box-id x (N .boxes) ≡ rowAt box-id (boxAt (f .route) b) (nodeWidth f) (nodePart b) (nodeCount b) (rowOf f b x)
+  pub read-find : (x : ℕ) → find boxId x (N .boxes) ≡ rowAt boxId (boxAt (f .route) b) (nodeWidth f) (nodePart b) (nodeCount b) (rowOf f b x)
   unfolding readNetwork rowOf
   read-find x =
-      find-rows box-id (boxAt (f .route) b) (nodeWidth f) (nodePart b) (nodeCount b) x
-      ∙ ap (rowAt box-id (boxAt (f .route) b) (nodeWidth f) (nodePart b) (nodeCount b)) (place-ext _ _ x (nodeCount b) (λ k l. read-ids k))
+      find-rows boxId (boxAt (f .route) b) (nodeWidth f) (nodePart b) (nodeCount b) x
+      ∙ ap (rowAt boxId (boxAt (f .route) b) (nodeWidth f) (nodePart b) (nodeCount b)) (place-ext _ _ x (nodeCount b) (λ k l. read-ids k))
 
-  pub has-box-read : (x : ℕ) → has-box N x ≡ boxed f b x
+  pub has-box-read : (x : ℕ) → hasBox N x ≡ boxed f b x
   unfolding boxed
-  has-box-read x = ap is-box (read-find x) ∙ cond-ap is-box (ltb (rowOf f b x) (nodeCount b)) _ none ∙ cond-test (ltb (rowOf f b x) (nodeCount b))
+  has-box-read x = ap isBox (read-find x) ∙ cond-ap isBox (ltb (rowOf f b x) (nodeCount b)) _ none ∙ cond-test (ltb (rowOf f b x) (nodeCount b))
 
   pub owns-read : (x : ℕ) → owns N x ≡ owned f b x
   unfolding owned boxed ownRow nodeOffset
-  owns-read x = ap is-own (read-find x) ∙ go (ltb (rowOf f b x) (nodeCount b))
+  owns-read x = ap isOwn (read-find x) ∙ go (ltb (rowOf f b x) (nodeCount b))
     where
-      go : (t : Bool) → is-own (cond t (some (boxAt (f .route) b (at (nodePart b) (nodeWidth f) (rowOf f b x)))) none) ≡ t && ownRow f b (rowOf f b x)
+      go : (t : Bool) → isOwn (cond t (some (boxAt (f .route) b (at (nodePart b) (nodeWidth f) (rowOf f b x)))) none) ≡ t && ownRow f b (rowOf f b x)
       go true = box-own-at (f .route) b (at (nodePart b) (nodeWidth f) (rowOf f b x))
       go false = refl
 
   -- there is an own box
-  pub own-read : any (λ (v : Box Route Demand). is-own (some v)) (N .boxes) ≡ not (ownless f b)
+  pub own-read : any (λ (v : Box Route Demand). isOwn (some v)) (N .boxes) ≡ not (ownless f b)
   unfolding readNetwork ownless ownRow nodeOffset
   own-read =
-      any-rows (λ (v : Box Route Demand). is-own (some v)) (boxAt (f .route) b) (nodeWidth f) (nodePart b) (nodeCount b)
+      any-rows (λ (v : Box Route Demand). isOwn (some v)) (boxAt (f .route) b) (nodeWidth f) (nodePart b) (nodeCount b)
       ∙ ap not (every-ext _ _ (nodeCount b) (λ k l. ap not (box-own-at (f .route) b (at (nodePart b) (nodeWidth f) k))))
 
   -- a wire leads out of the box with an id
@@ -93,7 +93,7 @@ pub record Edge (f : Form) (b : List ℕ) (j : ℕ) : Type 0 where
   pub policy-there : edgePolicy f b j < policyCount b
 
 pub edge-parts : (f : Form) (b : List ℕ) (j : ℕ) → edgeOk f b j ≡ true → Edge f b j
-unfolding edgeOk
+unfolding edgeOk edgeFormed edgeTo edgeFrom edgePolicy
 edge-parts f b j h =
     let r = leb (least (edgeKey f b) j) (edgeKey f b j) in
     let t = owned f b (edgeTo f b j) in
@@ -112,6 +112,6 @@ edge-parts f b j h =
     }
 
 pub parts-edge : (f : Form) (b : List ℕ) (j : ℕ) → Edge f b j → edgeOk f b j ≡ true
-unfolding edgeOk
+unfolding edgeOk edgeFormed edgeTo edgeFrom edgePolicy
 parts-edge f b j e =
     rw (le-leb (least (edgeKey f b) j) (edgeKey f b j) (e .rises), e .to-own, e .from-there, e .differ, lt-ltb (edgePolicy f b j) (policyCount b) (e .policy-there))

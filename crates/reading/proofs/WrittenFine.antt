@@ -24,7 +24,7 @@ use Rattle.numbers.specs.BigEndian.{u16At, u32At}
 use Rattle.routes.specs.Form.{policyAt, routeAt}
 use Rattle.routes.proofs.PolicyCodec.{policy}
 use Rattle.routes.specs.declared.Route.{Route}
-use Rattle.networks.specs.Network.{Input, own, wire-key, box-id, as-input, own-boxes, inputs}
+use Rattle.networks.specs.Network.{Input, own, wireKey, boxId, asInput, ownBoxes, inputs}
 use Rattle.networks.specs.Sound.{Sound, Joined, sends}
 use Rattle.records.specs.Form.{nodeWidth, Usable}
 use Rattle.records.specs.Layout.{nodeCount, edgeCount, policyCount, policyOffset, nodePart, edgePart, nodeOffset, edgeOffset, total}
@@ -45,7 +45,7 @@ length-any : {A : Type 0} (xs : List A) → 0 < length xs → any (λ (x : A). t
 length-any [] h = absurd (omega arith)
 length-any (x ∷ xs) h = refl
 
-input-at : (w : ℕ) (b : List ℕ) (o : ℕ) → eqb (getD b (o + 2) 0) 0 ≡ false → as-input (boxAt w b o) ≡ some (record { id = u16At b o; assumed = routeAt w b (o + 3) })
+input-at : (w : ℕ) (b : List ℕ) (o : ℕ) → eqb (getD b (o + 2) 0) 0 ≡ false → asInput (boxAt w b o) ≡ some (record { id = u16At b o; assumed = routeAt w b (o + 3) })
 unfolding boxAt
 input-at w b o q = rw q
 
@@ -74,18 +74,18 @@ module _ (f : Form) (b : List ℕ) (frame : Framed f b)
   node-ok : (i : ℕ) → i < nodeCount b → nodeOk f b i ≡ true
   unfolding nodeOk readNetwork
   node-ok i l = and-i _ _
-      (le-leb _ _ (least-ext _ _ (read-ids f b) i (rows-rise box-id (boxAt (f .route) b) (nodeWidth f) (nodePart b) (nodeCount b) (sound .boxes-rise) i l)))
+      (le-leb _ _ (least-ext _ _ (read-ids f b) i (rows-rise boxId (boxAt (f .route) b) (nodeWidth f) (nodePart b) (nodeCount b) (sound .boxes-rise) i l)))
       (nodes i l)
 
   some-own : ownless f b ≡ false
-  some-own = not-true (ownless f b) (sym (own-read f b) ∙ some-own-boxes (N .boxes) ∙ length-any (own-boxes N) (sound .some-own))
+  some-own = not-true (ownless f b) (sym (own-read f b) ∙ some-own-boxes (N .boxes) ∙ length-any (ownBoxes N) (sound .some-own))
 
   edge-facts : (j : ℕ) → j < edgeCount b → Edge f b j
   unfolding readNetwork wireAt edgeTo edgeFrom edgePolicy edgeOffset
   edge-facts j l =
       let e = rows-all (wireAt b) 5 (Joined N) (edgePart f b) (edgeCount b) (sound .wires-joined) j l in
       record {
-        rises = least-ext _ _ (read-keys f b) j (rows-rise wire-key (wireAt b) 5 (edgePart f b) (edgeCount b) (sound .wires-rise) j l);
+        rises = least-ext _ _ (read-keys f b) j (rows-rise wireKey (wireAt b) 5 (edgePart f b) (edgeCount b) (sound .wires-rise) j l);
         to-own = sym (owns-read f b _) ∙ e .to-own;
         from-there = sym (has-box-read f b _) ∙ e .from-there;
         differ = ne-eqb _ _ (e .differ);
@@ -103,8 +103,8 @@ module _ (f : Form) (b : List ℕ) (frame : Framed f b)
       o : ℕ
       o = at (nodePart b) (nodeWidth f) i
 
-      used : (a : Input Route) → as-input (boxAt (f .route) b o) ≡ some a → sends N (a .id) ≡ true
-      used = rows-all (boxAt (f .route) b) (nodeWidth f) _ (nodePart b) (nodeCount b) (filterMap-all _ as-input (N .boxes) (sound .inputs-used)) i l
+      used : (a : Input Route) → asInput (boxAt (f .route) b o) ≡ some a → sends N (a .id) ≡ true
+      used = rows-all (boxAt (f .route) b) (nodeWidth f) _ (nodePart b) (nodeCount b) (filterMap-all _ asInput (N .boxes) (sound .inputs-used)) i l
 
       go : (t : Bool) → eqb (getD b (o + 2) 0) 0 ≡ t → t || not (every (λ j. not (eqb (edgeFrom f b j) (u16At b o))) (edgeCount b)) ≡ true
       go true q = refl
