@@ -1,0 +1,2 @@
+-- What the two records say at the places that the search looks at.
+pub mod Senders
