@@ -26,7 +26,7 @@ use Rattle.networks.specs.Sound.{sends}
 use Rattle.records.specs.Form.{nodeWidth}
 use Rattle.records.specs.Layout.{nodeCount, edgeCount, policyCount, nodePart, edgePart, nodeOffset, edgeOffset}
 use Rattle.records.specs.Node.{nodeId, rowOf, ownless, isOwn as ownRow}
-use Rattle.records.specs.Edge.{edgeTo, edgeFrom, edgePolicy, edgeKey, boxed, owned, edgeFormed, edgeOk}
+use Rattle.records.specs.Edge.{edgeTo, edgeFrom, edgePolicy, edgeKey, boxed, owned, endsFormed, edgeFormed, edgeOk}
 use Rattle.records.specs.declared.Form.{Form}
 use Rattle.reading.specs.Parts.{boxAt, wireAt}
 use Rattle.reading.specs.Whole.{HouseNetwork, readNetwork}
@@ -93,25 +93,25 @@ pub record Edge (f : Form) (b : List ℕ) (j : ℕ) : Type 0 where
   pub policy-there : edgePolicy f b j < policyCount b
 
 pub edge-parts : (f : Form) (b : List ℕ) (j : ℕ) → edgeOk f b j ≡ true → Edge f b j
-unfolding edgeOk edgeFormed edgeTo edgeFrom edgePolicy
+unfolding edgeOk edgeFormed endsFormed edgeTo edgeFrom edgePolicy
 edge-parts f b j h =
     let r = leb (least (edgeKey f b) j) (edgeKey f b j) in
     let t = owned f b (edgeTo f b j) in
     let s = boxed f b (edgeFrom f b j) in
     let d = not (eqb (edgeTo f b j) (edgeFrom f b j)) in
     let p = ltb (edgePolicy f b j) (policyCount b) in
-    let h₁ = and-r r (t && (s && (d && p))) h in
-    let h₂ = and-r t (s && (d && p)) h₁ in
-    let h₃ = and-r s (d && p) h₂ in
+    let formed = and-r r ((t && (s && d)) && p) h in
+    let ends = and-l (t && (s && d)) p formed in
+    let others = and-r t (s && d) ends in
     record {
-      rises = leb-true _ _ (and-l r (t && (s && (d && p))) h);
-      to-own = and-l t (s && (d && p)) h₁;
-      from-there = and-l s (d && p) h₂;
-      differ = not-true _ (and-l d p h₃);
-      policy-there = ltb-true _ _ (and-r d p h₃);
+      rises = leb-true _ _ (and-l r ((t && (s && d)) && p) h);
+      to-own = and-l t (s && d) ends;
+      from-there = and-l s d others;
+      differ = not-true _ (and-r s d others);
+      policy-there = ltb-true _ _ (and-r (t && (s && d)) p formed);
     }
 
 pub parts-edge : (f : Form) (b : List ℕ) (j : ℕ) → Edge f b j → edgeOk f b j ≡ true
-unfolding edgeOk edgeFormed edgeTo edgeFrom edgePolicy
+unfolding edgeOk edgeFormed endsFormed edgeTo edgeFrom edgePolicy
 parts-edge f b j e =
     rw (le-leb (least (edgeKey f b) j) (edgeKey f b j) (e .rises), e .to-own, e .from-there, e .differ, lt-ltb (edgePolicy f b j) (policyCount b) (e .policy-there))

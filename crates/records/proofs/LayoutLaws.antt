@@ -10,7 +10,7 @@ use mir.Val.{Fits}
 use Rattle.lists.specs.Stride.{at}
 use Rattle.numbers.specs.BigEndian.{u16At}
 use Rattle.records.specs.Form.{nodeWidth, entryWidth}
-use Rattle.records.specs.Layout.{policyOffset, nodePart, nodeOffset, edgeOffset}
+use Rattle.records.specs.Layout.{policyOffset, nodePart, nodeOffset, edgeOffset, total}
 use Rattle.records.specs.Entries.{entryOffset}
 use Rattle.records.specs.declared.Form.{Form}
 
@@ -52,3 +52,6 @@ node-offset f b part i r e h = rw (← e) h
 pub edge-offset : (f : Form) (b : List ℕ) (n part i r : ℕ) → n ≡ u16At b 5 → part ≡ nodeOffset f b n → r ≡ at part 5 i → r ≡ edgeOffset f b i
 unfolding edgeOffset
 edge-offset f b n part i r c e h = rw (← c, ← e) h
+
+pub total-of : (f : Form) (b : List ℕ) (n r : ℕ) → n ≡ u16At b 7 → r ≡ edgeOffset f b n → r ≡ total f b
+total-of f b n r c h = rw (← c) h

@@ -2,5 +2,8 @@ pub mod LayoutLaws
 pub mod NodeLaws
 pub mod PolicyLaws
 pub mod RowLaws
+pub mod EdgeLaws
+pub mod LeftLaws
 pub mod EntryLaws
 pub mod EntryRefusals
+pub mod NetworkRefusals

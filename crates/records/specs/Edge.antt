@@ -32,11 +32,13 @@ module _ (f : Form) (b : List ℕ) where
   unfoldable pub owned : ℕ → Bool
   owned id = boxed id && isOwn f b (rowOf f b id)
 
-  -- both ends of the edge at an offset exist and differ, the to end is own, and the policy exists
+  -- both ends of an edge exist and differ, and the to end is own
+  unfoldable pub endsFormed : ℕ → ℕ → Bool
+  endsFormed to from = owned to && (boxed from && not (eqb to from))
+
+  -- the ends of the edge at an offset are well formed, and its policy exists
   unfoldable pub edgeFormed : ℕ → Bool
-  edgeFormed o =
-      owned (u16At b o)
-      && (boxed (u16At b (o + 2)) && (not (eqb (u16At b o) (u16At b (o + 2))) && ltb (getD b (o + 4) 0) (policyCount b)))
+  edgeFormed o = endsFormed (u16At b o) (u16At b (o + 2)) && ltb (getD b (o + 4) 0) (policyCount b)
 
   -- the j-th edge is well formed, and above the one before
   unfoldable pub edgeOk : ℕ → Bool

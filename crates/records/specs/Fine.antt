@@ -18,7 +18,7 @@ use Rattle.records.specs.Layout.{nodeCount, edgeCount, policyCount, node
 use Rattle.records.specs.Node.{nodeOk, isOwn, ownless}
 use Rattle.records.specs.Edge.{edgeOk, inputOk}
 use Rattle.records.specs.Numbers.{Numbers, refused, fine}
-use Rattle.records.specs.Network.{policyOk, badPolicy, badNode, badEdge, badInput, networkRefusal}
+use Rattle.records.specs.Network.{policyOk, manyParts, badPolicy, badNode, badEdge, badInput, networkRefusal}
 use Rattle.records.specs.Entries.{entryCount, entryOffset, entryOk, badEntry, entriesRefusal}
 use Rattle.records.specs.declared.Form.{Form}
 
@@ -56,14 +56,14 @@ bad-none : (ok : ℕ → Bool) (n : ℕ) → ((i : ℕ) → i < n → ok i ≡ t
 bad-none ok n h = let e = first-none ok n h in le-ltb (firstBad ok n) n (omega arith)
 
 pub network-fine : (b : List ℕ) → networkRefusal b ≡ fine → NetworkFine version1 b
-unfolding networkRefusal
+unfolding networkRefusal manyParts
 network-fine b h =
     let few = ltb 512 (nodeCount b) in
     let few₂ = ltb 4096 (edgeCount b) in
     let few₃ = ltb 64 (policyCount b) in
     let r₁ = row-off (ltb (length b) 10) 1 (length b) _ (omega arith) h in
     let r₂ = row-off (not (eqb (getD b 4 0) 1)) 2 4 _ (omega arith) (r₁ .1) in
-    let r₃ = row-off (few || (few₂ || few₃)) 3 5 _ (omega arith) (r₂ .1) in
+    let r₃ = row-off (manyParts version1 b) 3 5 _ (omega arith) (r₂ .1) in
     let r₄ = row-off (not (eqb (u32At b 0 + 4) (total version1 b))) 4 0 _ (omega arith) (r₃ .1) in
     let r₅ = row-off (ltb (length b) (total version1 b)) 1 (length b) _ (omega arith) (r₄ .1) in
     let r₆ = row-off (ltb (total version1 b) (length b)) 5 (total version1 b) _ (omega arith) (r₅ .1) in
@@ -90,7 +90,7 @@ network-fine b h =
     }
 
 pub fine-network : (b : List ℕ) → NetworkFine version1 b → networkRefusal b ≡ fine
-unfolding networkRefusal
+unfolding networkRefusal manyParts
 fine-network b h =
     let e = h .whole in
     rw (

@@ -10,3 +10,4 @@ pub mod Entries
 pub mod Cases
 pub mod Fine
 pub mod Offsets
+pub mod RowLaws

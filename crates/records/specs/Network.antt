@@ -32,12 +32,16 @@ module _ (f : Form) (b : List ℕ) where
   abbrev pub badInput : ℕ
   badInput = firstBad (inputOk f b) (nodeCount b)
 
+  -- a count over its bound
+  unfoldable pub manyParts : Bool
+  manyParts = ltb (f .most) (nodeCount b) || (ltb 4096 (edgeCount b) || ltb 64 (policyCount b))
+
   -- the table, in the document's order; 1 stands twice
   abbrev pub networkTable : List (Bool × Numbers)
   networkTable =
       (ltb (length b) 10, refused 1 (length b)) ∷
       (not (eqb (getD b 4 0) 1), refused 2 4) ∷
-      (ltb (f .most) (nodeCount b) || (ltb 4096 (edgeCount b) || ltb 64 (policyCount b)), refused 3 5) ∷
+      (manyParts, refused 3 5) ∷
       (not (eqb (u32At b 0 + 4) (total f b)), refused 4 0) ∷
       (ltb (length b) (total f b), refused 1 (length b)) ∷
       (ltb (total f b) (length b), refused 5 (total f b)) ∷

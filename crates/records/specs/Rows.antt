@@ -4,10 +4,10 @@ use mathlib.Core.Path.{_≡_}
 use mathlib.Core.Bool.{Bool, true, false, cond, _||_}
 use mathlib.Core.List.{List}
 use lib.Dec.{eqb, ltb}
-use lib.ListN.{getD}
+use lib.ListN.{getD, set}
 use Rattle.records.specs.Layout.{nodeCount}
 use Rattle.records.specs.Node.{rowOf}
-use Rattle.records.specs.Edge.{boxed, leftBy}
+use Rattle.records.specs.Edge.{edgeFrom, edgeKey, boxed, edgeOk, leftBy}
 use Rattle.records.specs.Numbers.{checkNumbers}
 use Rattle.records.specs.declared.Check.{Check}
 use Rattle.records.specs.declared.Form.{Form}
@@ -24,6 +24,14 @@ module _ (f : Form) (b : List ℕ) where
   -- the second table holds 1 at the rows of nodes that one of the first k edges leaves, and 0 at the others
   unfoldable pub LeftMarked : ℕ → List ℕ → Type 0
   LeftMarked k left = (i : ℕ) → i < nodeCount b → getD left i 0 ≡ cond (leftBy f b k i) 1 0
+
+  -- the j-th edge read: what the next key may be at least, or 0 where the edge is not in order
+  unfoldable pub keyAfter : ℕ → ℕ
+  keyAfter j = cond (edgeOk f b j) (edgeKey f b j + 1) 0
+
+  -- and the second table, with the row of the edge's from end marked where the edge is in order
+  unfoldable pub leftAfter : ℕ → List ℕ → List ℕ
+  leftAfter j left = cond (edgeOk f b j) (set left (rowOf f b (edgeFrom f b j)) 1) left
 
   abbrev pub FilledOrKept : Bool → List ℕ → List ℕ → Type 0
   FilledOrKept true before after = Filled after

@@ -5,13 +5,20 @@ ghost use lib.ListN.{length};
 ghost use Rattle.lists.specs.Stride.{at};
 ghost use Rattle.records.specs.Entries.{entryOffset};
 ghost use Rattle.records.specs.Form.{Usable};
-ghost use Rattle.records.specs.Layout.{policyOffset, nodePart, nodeOffset, edgeOffset};
+ghost use Rattle.records.specs.Layout.{policyOffset, nodePart, nodeOffset, edgeOffset, total};
 use crate::Form;
 use numbers::u16_at;
 
 // A byte as a number to count with.
 pub fn wide(x: u8) -> usize
     ensures { λ r. ⌜ (r ≡ x) × (r < 256) ⌝ }
+{
+    x as usize
+}
+
+// The same of two bytes.
+pub fn wide16(x: u16) -> usize
+    ensures { λ r. ⌜ (r ≡ x) × (r < 65536) ⌝ }
 {
     x as usize
 }
@@ -62,4 +69,12 @@ pub fn edge_offset(form: Form, b: &[u8], i: usize) -> usize
     ensures { λ r. ⌜ r ≡ edgeOffset form (now (b .entry)) i ⌝ }
 {
     stride(node_offset(form, b, u16_at(b, 5) as usize), 5, i)
+}
+
+// The length of a network record by its counts.
+pub fn total_of(form: Form, b: &[u8]) -> usize
+    requires { ⌜ Usable form × (10 ≤ length (now b)) ⌝ }
+    ensures { λ r. ⌜ r ≡ total form (now (b .entry)) ⌝ }
+{
+    edge_offset(form, b, u16_at(b, 7) as usize)
 }

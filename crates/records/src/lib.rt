@@ -2,12 +2,15 @@
 //
 // The checks have no `requires`. What reads a part of a record asks for the room that it touches, which a check has tested
 // for the whole record.
+mod edges;
 mod entries;
 mod layout;
+mod network;
 mod nodes;
 mod policies;
 mod rows;
 
+pub use edges::is_owned;
 pub use entries::check_list;
 pub use entries::check_sheet;
 pub use layout::edge_offset;
@@ -15,6 +18,8 @@ pub use layout::entry_offset;
 pub use layout::node_offset;
 pub use layout::node_part;
 pub use layout::policy_offset;
+pub use network::check_network;
+pub use network::check_network_rows;
 pub use nodes::is_own;
 pub use nodes::node_id;
 pub use rows::fill_rows;
