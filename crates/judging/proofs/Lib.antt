@@ -1,2 +1,3 @@
 -- What the two records say at the places that the search looks at.
-pub mod Senders
+pub mod Said
+pub mod SenderLaws

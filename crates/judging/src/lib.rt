@@ -1,5 +1,5 @@
 // Judging: the first fault of a proposal by rising id, or a pass.
-ghost use mathlib.Core.Path.{_≡_};
+mod senders;
 
 use records::Refusal;
 use routes::Route;

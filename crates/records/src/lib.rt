@@ -18,6 +18,8 @@ pub use layout::entry_offset;
 pub use layout::node_offset;
 pub use layout::node_part;
 pub use layout::policy_offset;
+pub use layout::wide;
+pub use layout::wide16;
 pub use network::check_network;
 pub use network::check_network_rows;
 pub use nodes::is_own;
