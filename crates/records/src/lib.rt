@@ -5,6 +5,7 @@
 mod edges;
 mod entries;
 mod layout;
+mod lookup;
 mod network;
 mod nodes;
 mod policies;
@@ -18,6 +19,8 @@ pub use layout::entry_offset;
 pub use layout::node_offset;
 pub use layout::node_part;
 pub use layout::policy_offset;
+pub use lookup::entry_of;
+pub use lookup::row_of;
 pub use network::check_network;
 pub use network::check_network_rows;
 pub use nodes::is_own;
