@@ -7,3 +7,4 @@ pub mod LeftLaws
 pub mod EntryLaws
 pub mod EntryRefusals
 pub mod NetworkRefusals
+pub mod LookupLaws

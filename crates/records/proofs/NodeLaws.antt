@@ -1,5 +1,6 @@
 -- The nodes of a network, as the code reads them.
 --     kinds, promises, demands, node-forms     when a node is well formed
+--     owning, promised, asked                  what it holds
 --     noding, node-rooms                       the ways on of the loop over the nodes, and the room that it asks for
 use Prim.Native.Nat.{ℕ, _+_, _^_, _≤_, _<_}
 use native.Mathlib.Omega.{arith}
@@ -16,8 +17,9 @@ use Rattle.lists.specs.First.{firstBad}
 use Rattle.lists.specs.Walk.{Climb, climb-start, climb-next, climb-low, climb-ill, climb-end}
 use Rattle.numbers.specs.BigEndian.{u16At}
 use Rattle.routes.specs.Form.{zeros, routeFormed}
+use Rattle.routes.specs.declared.Demand.the-variants.{Nothing, Hold, HoldNone}
 use Rattle.records.specs.Layout.{nodePart, nodeOffset}
-use Rattle.records.specs.Node.{kindFormed, promiseFormed, demandFormed, nodeFormed, nodeId, nodeOk}
+use Rattle.records.specs.Node.{kindFormed, promiseFormed, demandFormed, nodeFormed, promising, demandOf, nodeId, nodeOk}
 use Rattle.records.specs.Offsets.{node-first, node-after, node-within}
 use Rattle.records.specs.declared.Form.{Form}
 
@@ -82,11 +84,43 @@ module _ (w : ℕ) (b : List ℕ) (o : ℕ) where
         unfolding nodeFormed
         node-demand d y e = rw (← hk, not-false k yk, ← hr, not-false r yr, ← hp, not-false p y) e
 
+  pub own-yes : getD b (o + 2) 0 ≡ 0 → true ≡ eqb (getD b (o + 2) 0) 0
+  own-yes p = sym (eq-eqb _ _ p)
+
+  pub own-no : (getD b (o + 2) 0 ≡ 0 → ⊥) → false ≡ eqb (getD b (o + 2) 0) 0
+  own-no p = sym (ne-eqb _ _ p)
+
+  pub promising-no : getD b (o + 3 + w) 0 ≡ 0 → false ≡ promising w b o
+  unfolding promising
+  promising-no p = rw p
+
+  pub promising-yes : (getD b (o + 3 + w) 0 ≡ 0 → ⊥) → true ≡ promising w b o
+  unfolding promising
+  promising-yes p = rw (ne-eqb _ _ p)
+
+  pub asks-nothing : getD b (o + 4 + w + w) 0 ≡ 0 → Nothing ≡ demandOf w b o
+  unfolding demandOf
+  asks-nothing p = rw p
+
+  pub asks-hold : (c t : ℕ) → getD b (o + 4 + w + w) 0 ≡ 1 → c ≡ u16At b (o + 5 + w + w) → t ≡ u16At b (o + 7 + w + w) → Hold c t ≡ demandOf w b o
+  unfolding demandOf
+  asks-hold c t p q r = rw (p, q, r)
+
+  pub asks-none : (getD b (o + 4 + w + w) 0 ≡ 0 → ⊥) → (getD b (o + 4 + w + w) 0 ≡ 1 → ⊥) → HoldNone ≡ demandOf w b o
+  unfolding demandOf
+  asks-none p q = rw (ne-eqb _ _ p, ne-eqb _ _ q)
+
 pub ruleset kinds = (kind-own, kind-promising, kind-input, kind-other)
 
 pub ruleset promises = (promise-none, promise-made, promise-other)
 
 pub ruleset demands = (demand-hold, demand-plain, demand-other)
+
+pub ruleset owning = (own-yes, own-no)
+
+pub ruleset promised = (promising-no, promising-yes)
+
+pub ruleset asked = (asks-nothing, asks-hold, asks-none)
 
 pub ruleset node-forms = (node-kind, node-route, node-promise, node-demand)
 

@@ -6,6 +6,7 @@ use native.Mathlib.Omega.{arith}
 use mathlib.Core.Path.{_≡_, refl, sym, ap, _∙_}
 use mathlib.Core.Bool.{Bool, true, false, cond, not}
 use mathlib.Core.List.{List}
+use lib.Dec.{eqb}
 use lib.ListN.{length, getD, set, replicate, length-set, length-replicate, getD-replicate}
 use mir.Syntax.{w16}
 use mir.Val.{Fits}
@@ -26,13 +27,9 @@ module _ (f : Form) (b : List ℕ) where
     unfolding nodeId
     row-id v h = rw (← e) h
 
-    pub row-own : getD b (o + 2) 0 ≡ 0 → true ≡ isOwn f b i
+    pub row-own : (t : Bool) → t ≡ eqb (getD b (o + 2) 0) 0 → t ≡ isOwn f b i
     unfolding isOwn
-    row-own h = rw (← e, h)
-
-    pub row-input : (getD b (o + 2) 0 ≡ 0 → ⊥) → false ≡ isOwn f b i
-    unfolding isOwn
-    row-input h = rw (← e, ne-eqb _ _ h)
+    row-own t h = rw (← e) h
 
     module _ (r : Room f b) (l : i < nodeCount b) where
       pub row-id-room : o + 2 ≤ length b
@@ -62,7 +59,7 @@ module _ (f : Form) (b : List ℕ) where
   unfolding Ownless Passed ownless
   ownless-end n i c l h = rw (← c) (sym (every-yes _ n (λ k p. h k (omega arith))))
 
-pub ruleset node-reads = (row-id, row-own, row-input, row-id-room, row-kind-room)
+pub ruleset node-reads = (row-id, row-own, row-id-room, row-kind-room)
 
 pub ruleset owns = (ownless-start, ownless-next, ownless-not, ownless-end)
 

@@ -1,6 +1,6 @@
 -- What is refused of a sheet and of a route list: numbers 11 to 16, the first that applies (document 01, 'The numbers given back').
 -- The two differ in what stands before an entry's route: lead is 2 bytes in a list and 3 in a sheet.
-use Prim.Native.Nat.{ℕ, _+_}
+use Prim.Native.Nat.{ℕ, _+_, _≤_}
 use mathlib.Core.Bool.{Bool, true, cond, not, _&&_}
 use mathlib.Core.List.{List, [], _∷_}
 use lib.Dec.{eqb, leb, ltb}
@@ -11,7 +11,7 @@ use Rattle.lists.specs.Stride.{at}
 use Rattle.lists.specs.Test.{firstOf}
 use Rattle.numbers.specs.BigEndian.{u16At, u32At}
 use Rattle.routes.specs.Form.{routeFormed}
-use Rattle.records.specs.Form.{version1, entryWidth, listLead, sheetLead}
+use Rattle.records.specs.Form.{Usable, version1, entryWidth, listLead, sheetLead}
 use Rattle.records.specs.Numbers.{Numbers, refused, fine}
 use Rattle.records.specs.declared.Form.{Form}
 
@@ -60,6 +60,13 @@ module _ (f : Form) (lead : ℕ) where
     -- number and place of the first that applies of the rows from the k-th on, or 0
     unfoldable pub entriesFrom : ℕ → Numbers
     entriesFrom k = firstOf (drop k entriesTable) fine
+
+    -- the record is as long as its count says
+    pub record EntriesRoom : Type 0 where
+      pub usable : Usable f
+      pub led : (2 ≤ lead) × (lead ≤ 3)
+      pub long : 7 ≤ length b
+      pub whole : entryOffset (entryCount b) ≤ length b
 
 -- number and place of the first that applies, or 0
 unfoldable pub entriesRefusal : ℕ → List ℕ → Numbers

@@ -8,6 +8,7 @@ pub mod Network
 pub mod Rows
 pub mod Entries
 pub mod Cases
+pub mod Ids
 pub mod Fine
 pub mod Offsets
 pub mod RowLaws

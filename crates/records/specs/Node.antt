@@ -8,6 +8,8 @@ use Rattle.lists.specs.First.{every}
 use Rattle.lists.specs.Rising.{least, place}
 use Rattle.numbers.specs.BigEndian.{u16At}
 use Rattle.routes.specs.Form.{zeros, routeFormed}
+use Rattle.routes.specs.declared.Demand.{Demand}
+use Rattle.routes.specs.declared.Demand.the-variants.{Nothing, Hold, HoldNone}
 use Rattle.records.specs.Layout.{nodeCount, nodeOffset}
 use Rattle.records.specs.declared.Form.{Form}
 
@@ -35,6 +37,14 @@ module _ (w : ℕ) (b : List ℕ) (o : ℕ) where
 
   unfoldable pub nodeFormed : Bool
   nodeFormed = kindFormed && (routeFormed w b (o + 3) && (promiseFormed && demandFormed))
+
+  -- the node promises a route, or to hold none
+  unfoldable pub promising : Bool
+  promising = not (eqb promiseFlagAt 0)
+
+  -- what is asked of the route at the node
+  unfoldable pub demandOf : Demand
+  demandOf = cond (eqb demandAt 0) Nothing (cond (eqb demandAt 1) (Hold (u16At b (o + 5 + w + w)) (u16At b (o + 7 + w + w))) HoldNone)
 
 module _ (f : Form) (b : List ℕ) where
   unfoldable pub nodeId : ℕ → ℕ

@@ -3,7 +3,7 @@
 --     policy-after, node-after, edge-after, entry-after     the next one
 --     policy-within, node-within, edge-within               each ends within as many as there are
 --     policies-room, nodes-room, policy-room, ..            and within the bytes
---     usable1, fine-room                                    what a fine check gives
+--     usable1, fine-room, fine-entries-room                 what a fine check gives
 use Prim.Native.Nat.{ℕ, _+_, _≤_, _<_}
 use native.Mathlib.Omega.{arith}
 use mathlib.Core.Path.{_≡_}
@@ -12,8 +12,8 @@ use lib.ListN.{length}
 use Rattle.lists.specs.Stride.{at, at-zero, at-next, at-fits, at-base}
 use Rattle.records.specs.Form.{Usable, version1, nodeWidth, entryWidth}
 use Rattle.records.specs.Layout.{Room, nodeCount, edgeCount, policyCount, policyOffset, nodePart, nodeOffset, edgePart, edgeOffset, total}
-use Rattle.records.specs.Entries.{entryOffset}
-use Rattle.records.specs.Fine.{NetworkFine}
+use Rattle.records.specs.Entries.{EntriesRoom, entryCount, entryOffset}
+use Rattle.records.specs.Fine.{NetworkFine, EntriesFine}
 use Rattle.records.specs.declared.Form.{Form}
 
 pub policy-first : policyOffset 0 ≡ 10
@@ -84,6 +84,10 @@ module _ (f : Form) (lead : ℕ) where
   unfolding entryOffset entryWidth
   entry-within i n l = at-fits 7 (lead + f .route) i n l
 
+  module _ (b : List ℕ) (r : EntriesRoom f lead b) where
+    pub entry-room : (i : ℕ) → i < entryCount b → entryOffset f lead i + (lead + f .route) ≤ length b
+    entry-room i l = let h = r .whole in omega (arith, entry-within i (entryCount b) l)
+
 pub usable1 : Usable version1
 usable1 = record { wide = omega arith; narrow = omega arith; few = omega arith }
 
@@ -94,3 +98,6 @@ fine-room f b u n = record {
   few = n .few-nodes;
   whole = let h = n .whole in omega arith;
 }
+
+pub fine-entries-room : (f : Form) (lead : ℕ) (b : List ℕ) → Usable f → (2 ≤ lead) × (lead ≤ 3) → EntriesFine f lead b → EntriesRoom f lead b
+fine-entries-room f lead b u l n = record { usable = u; led = l; long = n .long; whole = let h = n .whole in omega arith }

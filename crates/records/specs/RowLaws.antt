@@ -1,24 +1,22 @@
 -- Rows and the table from ids to rows.
---     ids-rise, row-..       the row of an id, where ids rise
---     mark-..                what the table tells of an id
---     filled-once            there is one filled table
+--     ids-rise, row-..               the row of a node by its id, where ids rise
+--     entry-ids-rise, entry-..       the row of an entry by its id
+--     mark-..                        what the table tells of an id
+--     filled-once                    there is one filled table
 use Prim.Native.Nat.{ℕ, _+_, _-_, _≤_, _<_}
-use native.Mathlib.Nat.{eq-or-lt-of-le}
 use native.Mathlib.Omega.{arith}
-use mathlib.Core.Path.{_≡_, refl, sym, ap, _∙_}
-use mathlib.Core.Bool.{Bool, true, false, cond, not}
-use mathlib.Core.Logic.{⊎-elim}
+use mathlib.Core.Path.{_≡_, refl, sym, _∙_}
+use mathlib.Core.Bool.{Bool, true, false, cond}
 use mathlib.Core.List.{List}
-use lib.Dec.{eqb, ltb}
 use lib.ListN.{length, getD}
 use lib.Seq.{ext-getD}
-use borrow.Author.Tests.{leb-true, ltb-true, lt-ltb, eq-eqb, ne-eqb, eqb-true, not-false}
-use Rattle.lists.specs.First.{first-here, first-fails}
-use Rattle.lists.specs.Rising.{Rising, least, least-rising, place}
-use Rattle.lists.specs.Test.{and-l, le-or-lt}
+use borrow.Author.Tests.{leb-true, ltb-true, lt-ltb}
+use Rattle.lists.specs.Rising.{Rising, least, least-rising, place-found, place-is}
+use Rattle.lists.specs.Test.{and-l}
 use Rattle.records.specs.Layout.{nodeCount}
 use Rattle.records.specs.Node.{nodeId, nodeOk, rowOf}
 use Rattle.records.specs.Edge.{boxed}
+use Rattle.records.specs.Entries.{entryCount, entryId, entryOk, entryOf}
 use Rattle.records.specs.Rows.{rowMark, Filled}
 use Rattle.records.specs.declared.Form.{Form}
 
@@ -28,14 +26,6 @@ module _ (f : Form) (b : List ℕ) where
   unfolding nodeOk
   ids-rise n h = least-rising (nodeId f b) n (λ k l. leb-true (least (nodeId f b) k) (nodeId f b k) (and-l _ _ (h k l)))
 
-  -- a node in each of two rows with one id: the rows are the same
-  pub row-one : Rising (nodeId f b) (nodeCount b) → (i j : ℕ) → i < nodeCount b → j < nodeCount b → nodeId f b i ≡ nodeId f b j → i ≡ j
-  unfolding Rising
-  row-one r i j l m e = ⊎-elim
-      (λ (h : i ≤ j). ⊎-elim (λ (s : i ≡ j). s) (λ (s : i < j). let z = r i j s m in absurd (omega arith)) (eq-or-lt-of-le h))
-      (λ (h : j < i). let z = r j i h l in absurd (omega arith))
-      (le-or-lt i j)
-
   module _ (id : ℕ) where
     module _ (h : boxed f b id ≡ true) where
       pub row-within : rowOf f b id < nodeCount b
@@ -43,16 +33,13 @@ module _ (f : Form) (b : List ℕ) where
       row-within = ltb-true (rowOf f b id) (nodeCount b) h
 
       pub row-found : nodeId f b (rowOf f b id) ≡ id
-      unfolding boxed rowOf place
-      row-found = eqb-true (nodeId f b (rowOf f b id)) id (not-false _ (first-fails _ (nodeCount b) (ltb-true _ _ h)))
+      unfolding boxed rowOf
+      row-found = place-found (nodeId f b) id (nodeCount b) (ltb-true _ _ h)
 
     -- a node with the id is in its row
     pub row-is : (i : ℕ) → Rising (nodeId f b) (nodeCount b) → i < nodeCount b → nodeId f b i ≡ id → rowOf f b id ≡ i
-    unfolding Rising rowOf place
-    row-is i r l e =
-        first-here _ (nodeCount b) i l
-        (λ k p. let z = r k i p l in simp (ne-eqb (nodeId f b k) id (λ q. omega arith)))
-        (simp (eq-eqb (nodeId f b i) id e))
+    unfolding rowOf
+    row-is i r l e = place-is (nodeId f b) id (nodeCount b) i r l e
 
     pub row-boxed : (i : ℕ) → Rising (nodeId f b) (nodeCount b) → i < nodeCount b → nodeId f b i ≡ id → boxed f b id ≡ true
     unfolding boxed
@@ -79,6 +66,22 @@ module _ (f : Form) (b : List ℕ) where
 
       pub mark-row : boxed f b id ≡ true → v ≡ rowOf f b id + 1
       mark-row h = mark-is ∙ rw h
+
+module _ (f : Form) (lead : ℕ) (b : List ℕ) where
+  -- entries that are all well formed have rising ids
+  pub entry-ids-rise : (n : ℕ) → ((i : ℕ) → i < n → entryOk f lead b i ≡ true) → Rising (entryId f lead b) n
+  unfolding entryOk
+  entry-ids-rise n h = least-rising (entryId f lead b) n (λ k l. leb-true (least (entryId f lead b) k) (entryId f lead b k) (and-l _ _ (h k l)))
+
+  module _ (id : ℕ) where
+    pub entry-found : entryOf f lead b id < entryCount b → entryId f lead b (entryOf f lead b id) ≡ id
+    unfolding entryOf
+    entry-found l = place-found (entryId f lead b) id (entryCount b) l
+
+    -- an entry for the id is in its row
+    pub entry-is : (i : ℕ) → Rising (entryId f lead b) (entryCount b) → i < entryCount b → entryId f lead b i ≡ id → entryOf f lead b id ≡ i
+    unfolding entryOf
+    entry-is i r l e = place-is (entryId f lead b) id (entryCount b) i r l e
 
 pub filled-once : (f : Form) (b r s : List ℕ) → length r ≡ 65536 → length s ≡ 65536 → Filled f b r → Filled f b s → r ≡ s
 unfolding Filled

@@ -24,7 +24,7 @@ pub fn wide16(x: u16) -> usize
 }
 
 // The offset of the i-th of parts of one size behind a base.
-fn stride(base: usize, size: usize, i: usize) -> usize
+pub fn stride(base: usize, size: usize, i: usize) -> usize
     requires { ⌜ (base ≤ 8388608) × (size ≤ 64) × (i ≤ 65535) ⌝ }
     ensures { λ r. ⌜ (r ≡ at base size i) × (r ≤ base + 4194304) ⌝ }
 {

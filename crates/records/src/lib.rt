@@ -5,6 +5,7 @@
 mod edges;
 mod entries;
 mod layout;
+mod lookup;
 mod network;
 mod nodes;
 mod policies;
@@ -18,12 +19,15 @@ pub use layout::entry_offset;
 pub use layout::node_offset;
 pub use layout::node_part;
 pub use layout::policy_offset;
-pub use layout::wide;
-pub use layout::wide16;
+pub use lookup::entry_of;
+pub use lookup::row_of;
 pub use network::check_network;
 pub use network::check_network_rows;
+pub use nodes::demand_at;
 pub use nodes::is_own;
 pub use nodes::node_id;
+pub use nodes::own_at;
+pub use nodes::promising_at;
 pub use rows::fill_rows;
 
 // What the version of a record decides: the bytes of a route, and the greatest number of nodes and of entries.

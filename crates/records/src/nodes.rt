@@ -1,15 +1,17 @@
 // Nodes as bytes: whether they are well formed, and what they hold.
 ghost use mathlib.Core.Path.{_≡_};
 ghost use Prim.Native.Nat.{_+_, _≤_, _<_};
-ghost use lib.ListN.{length};
+ghost use lib.Dec.{eqb};
+ghost use lib.ListN.{length, getD};
 ghost use Rattle.lists.specs.First.{firstBad};
 ghost use Rattle.records.specs.Form.{Usable};
 ghost use Rattle.records.specs.Layout.{Room, nodeCount, nodeOffset};
-ghost use Rattle.records.specs.Node.{kindFormed, promiseFormed, demandFormed, nodeFormed, nodeId, nodeOk, isOwn, ownless};
+ghost use Rattle.records.specs.Node.{kindFormed, promiseFormed, demandFormed, nodeFormed, promising, demandOf, nodeId, nodeOk, isOwn, ownless};
 use crate::Form;
 use crate::layout::node_offset;
 use crate::layout::node_part;
 use numbers::u16_at;
+use routes::Demand;
 use routes::all_zero;
 use routes::route_formed;
 
@@ -102,14 +104,48 @@ pub fn node_id(form: Form, b: &[u8], i: usize) -> u16
     u16_at(b, node_offset(form, b, i))
 }
 
+// Whether the node at an offset is an own one.
+pub fn own_at(b: &[u8], at: usize) -> bool
+    requires { ⌜ at + 2 < length (now b) ⌝ }
+    ensures { λ r. ⌜ r ≡ eqb (getD (now (b .entry)) (at + 2) 0) 0 ⌝ }
+{
+    match b[at + 2] {
+        0 => true,
+        _ => false,
+    }
+}
+
 // Whether the i-th node is an own one.
 pub fn is_own(form: Form, b: &[u8], i: usize) -> bool
     requires { ⌜ Room form (now b) × (i < nodeCount (now b)) ⌝ }
     ensures { λ r. ⌜ r ≡ isOwn form (now (b .entry)) i ⌝ }
 {
-    match b[node_offset(form, b, i) + 2] {
-        0 => true,
-        _ => false,
+    own_at(b, node_offset(form, b, i))
+}
+
+// Whether the node at an offset promises a route, or to hold none.
+pub fn promising_at(width: usize, b: &[u8], at: usize) -> bool
+    requires { ⌜ at + (9 + width + width) ≤ length (now b) ⌝ }
+    ensures { λ r. ⌜ r ≡ promising width (now (b .entry)) at ⌝ }
+{
+    match b[at + 3 + width] {
+        0 => false,
+        _ => true,
+    }
+}
+
+// What is asked of the route at the node at an offset.
+pub fn demand_at(width: usize, b: &[u8], at: usize) -> Demand
+    requires { ⌜ at + (9 + width + width) ≤ length (now b) ⌝ }
+    ensures { λ r. ⌜ r ≡ demandOf width (now (b .entry)) at ⌝ }
+{
+    match b[at + 4 + width + width] {
+        0 => Demand::Nothing,
+        1 => Demand::Hold {
+            ceiling: u16_at(b, at + 5 + width + width),
+            tags: u16_at(b, at + 7 + width + width),
+        },
+        _ => Demand::HoldNone,
     }
 }
 
