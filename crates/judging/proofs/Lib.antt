@@ -1,3 +1,4 @@
 -- What the two records say at the places that the search looks at.
 pub mod Said
 pub mod SenderLaws
+pub mod BoxLaws

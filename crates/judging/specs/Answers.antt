@@ -1,5 +1,8 @@
 -- The judge's answers by document 01's numbers: what each case of a verdict says.
+use mathlib.Core.Bool.{cond, not}
 use mathlib.Core.Option.{Option, none, some}
+use Rattle.routes.specs.Demand.{meets}
+use Rattle.routes.specs.declared.Demand.{Demand}
 use Rattle.routes.specs.declared.Route.{Route}
 use Rattle.networks.specs.Answer.{Answer, given, refused}
 use Rattle.networks.specs.Judge.{Finding as Found, pass, found}
@@ -24,3 +27,7 @@ findingOf NoFault = none
 findingOf (FaultDue r) = some (record { number = 31; route = r })
 findingOf (FaultPromise r) = some (record { number = 32; route = r })
 findingOf (FaultDemand r) = some (record { number = 33; route = r })
+
+-- the last row of the table of findings alone: the demand
+unfoldable pub unmetOf : Demand → Route → Option (Found Route)
+unmetOf demand held = cond (not (meets demand held)) (some (record { number = 33; route = held })) none

@@ -1,4 +1,5 @@
 // Judging: the first fault of a proposal by rising id, or a pass.
+mod at_box;
 mod senders;
 
 use records::Refusal;

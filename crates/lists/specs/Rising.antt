@@ -11,7 +11,7 @@ use mathlib.Core.Logic.{⊎-elim}
 use mathlib.Core.Path.{_≡_, refl, ap, sym}
 use lib.Dec.{eqb}
 use borrow.Author.Tests.{eq-eqb, ne-eqb, eqb-true, not-false}
-use Rattle.lists.specs.First.{firstBad, first-here, first-none, first-fails}
+use Rattle.lists.specs.First.{firstBad, first-here, first-none, first-fails, first-ext}
 use Rattle.lists.specs.Test.{le-or-lt}
 
 -- the least id that may stand at place k: above the one before
@@ -64,6 +64,11 @@ place-is ids x n i r l e =
     first-here (λ k. not (eqb (ids k) x)) n i l
     (λ k p. let z = r k i p l in simp (ne-eqb (ids k) x (λ q. omega arith)))
     (simp (eq-eqb (ids i) x e))
+
+-- ids that agree below n have the same places
+pub place-ext : (ids other : ℕ → ℕ) (x n : ℕ) → ((k : ℕ) → k < n → ids k ≡ other k) → place ids x n ≡ place other x n
+unfolding place
+place-ext ids other x n h = first-ext _ _ n (λ k l. ap (λ (i : ℕ). not (eqb i x)) (h k l))
 
 -- what bisection knows: x stands neither below lo nor from hi on
 pub record Between (ids : ℕ → ℕ) (n x lo hi : ℕ) : Type 0 where

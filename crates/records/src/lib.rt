@@ -19,6 +19,8 @@ pub use layout::entry_offset;
 pub use layout::node_offset;
 pub use layout::node_part;
 pub use layout::policy_offset;
+pub use layout::wide;
+pub use layout::wide16;
 pub use lookup::entry_of;
 pub use lookup::row_of;
 pub use network::check_network;
