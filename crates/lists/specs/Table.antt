@@ -19,7 +19,7 @@ use Rattle.lists.specs.Rows.{rows}
 use Rattle.lists.specs.Sorted.{find, Rises}
 use Rattle.lists.specs.Stride.{at, at-zero, at-shift}
 
-ltb-suc : (a b : ℕ) → ltb (suc a) (suc b) ≡ ltb a b
+pub ltb-suc : (a b : ℕ) → ltb (suc a) (suc b) ≡ ltb a b
 ltb-suc a b = go (ltb a b) refl
   where
     go : (t : Bool) → ltb a b ≡ t → ltb (suc a) (suc b) ≡ t

@@ -11,3 +11,4 @@ pub mod WrittenFine
 pub mod EntryBytes
 pub mod EntryKinds
 pub mod Bridges
+pub mod Lowest
