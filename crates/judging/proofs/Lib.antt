@@ -2,3 +2,4 @@
 pub mod Said
 pub mod SenderLaws
 pub mod BoxLaws
+pub mod PlaceLaws

@@ -1,9 +1,10 @@
 -- What the search stands on: two records that are not refused, an entry for every own box, and the tables filled from them.
 use Prim.Native.Nat.{ℕ, _<_}
 use mathlib.Core.Path.{_≡_}
-use mathlib.Core.Bool.{true}
+use mathlib.Core.Bool.{Bool, true, cond, not, _&&_, _||_}
 use mathlib.Core.List.{List}
-use lib.ListN.{length, getD}
+use lib.Dec.{ltb}
+use lib.ListN.{getD, set}
 use Rattle.records.specs.Entries.{entryCount, entryOf}
 use Rattle.records.specs.Fine.{NetworkFine, EntriesFine}
 use Rattle.records.specs.Form.{Usable, listLead}
@@ -26,3 +27,18 @@ pub record Listed (f : Form) (network list places : List ℕ) : Type 0 where
 pub record Ready (f : Form) (network list rows places : List ℕ) : Type 0 where
   pub listed : Listed f network list places
   pub filled : Filled f network rows
+
+-- the node in a row is no own one, or the list has an entry for it
+unfoldable pub enteredAt : Form → List ℕ → List ℕ → ℕ → Bool
+enteredAt f network list i = not (isOwn f network i) || ltb (entryOf f listLead list (nodeId f network i)) (entryCount list)
+
+-- the rows of the entries of the first n nodes stand in the table
+unfoldable pub PlacedTo : Form → List ℕ → List ℕ → List ℕ → ℕ → Type 0
+PlacedTo f network list places n = (i : ℕ) → i < n → isOwn f network i ≡ true → getD places i 0 ≡ entryOf f listLead list (nodeId f network i)
+
+-- the table with the row of the entry of the node in row i, where it is an own one with an entry
+unfoldable pub withEntry : Form → List ℕ → List ℕ → ℕ → List ℕ → List ℕ
+withEntry f network list i places =
+    cond (isOwn f network i && ltb (entryOf f listLead list (nodeId f network i)) (entryCount list))
+    (set places i (entryOf f listLead list (nodeId f network i)))
+    places

@@ -1,5 +1,6 @@
 // Judging: the first fault of a proposal by rising id, or a pass.
 mod at_box;
+mod search;
 mod senders;
 
 use records::Refusal;

@@ -1,0 +1,59 @@
+// The search for the first fault.
+ghost use mathlib.Core.Path.{_≡_};
+ghost use lib.ListN.{length};
+ghost use Rattle.lists.specs.First.{firstBad};
+ghost use Rattle.networks.specs.Answer.{given};
+ghost use Rattle.networks.specs.House.{house};
+ghost use Rattle.networks.specs.Judge.{verdictFrom};
+ghost use Rattle.networks.specs.Network.{ownBoxes};
+ghost use Prim.Native.Nat.{_<_};
+ghost use Rattle.lists.specs.Rising.{Rising};
+ghost use Rattle.records.specs.Entries.{EntriesRoom, entryCount, entryId};
+ghost use Rattle.records.specs.Form.{listLead};
+ghost use Rattle.records.specs.Layout.{Room, nodeCount};
+ghost use Rattle.reading.specs.Whole.{readNetwork, readList};
+ghost use Rattle.judging.specs.Answers.{answerOf};
+ghost use Rattle.judging.specs.Judging.{highest};
+ghost use Rattle.judging.specs.Ready.{Ready, enteredAt, PlacedTo, withEntry};
+use crate::{Fault, Finding, Verdict};
+use crate::at_box::fault_at;
+use crate::senders::{held_route, node_route, offer};
+use numbers::u16_at;
+use records::{Form, edge_offset, entry_of, is_own, node_id, wide16};
+use routes::better;
+
+// Stores the row of the entry of the node in a row in places, where it is an own one with an entry. Answers whether it is
+// no own one, or has an entry.
+fn place_entry(form: Form, network: &[u8], list: &[u8], places: &mut [u16; 1024], i: usize) -> bool
+    requires { ⌜ Room form (now network) × (i < nodeCount (now network)) × EntriesRoom form listLead (now list) × Rising (entryId form listLead (now list)) (entryCount (now list)) × (length (now places) ≡ 1024) ⌝ }
+    ensures entered { λ r. ⌜ r ≡ enteredAt form (now (network .entry)) (now (list .entry)) i ⌝ }
+    ensures table { λ _. ⌜ now (places .exit) ≡ withEntry form (now (network .entry)) (now (list .entry)) i (now (places .entry)) ⌝ }
+{
+    if !is_own(form, network, i) {
+        return true;
+    }
+    let row = entry_of(form, 2, list, node_id(form, network, i));
+    if wide16(u16_at(list, 5)) <= row {
+        return false;
+    }
+    places[i] = row as u16;
+    true
+}
+
+// Stores the row of each own box's entry in places, up to the first own box without an entry, and answers that box's row,
+// or the number of nodes where every own box has one.
+pub fn place_entries(form: Form, network: &[u8], list: &[u8], places: &mut [u16; 1024]) -> usize
+    requires { ⌜ Room form (now network) × EntriesRoom form listLead (now list) × Rising (entryId form listLead (now list)) (entryCount (now list)) × (length (now places) ≡ 1024) ⌝ }
+    ensures first { λ r. ⌜ r ≡ firstBad (enteredAt form (now (network .entry)) (now (list .entry))) (nodeCount (now (network .entry))) ⌝ }
+    ensures table { λ r. ⌜ PlacedTo form (now (network .entry)) (now (list .entry)) (now (places .exit)) r ⌝ }
+{
+    let n = wide16(u16_at(network, 5));
+    let mut i = 0;
+    while i < n {
+        if !place_entry(form, network, list, places, i) {
+            return i;
+        }
+        i += 1;
+    }
+    i
+}
