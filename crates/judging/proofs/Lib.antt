@@ -3,3 +3,4 @@ pub mod Said
 pub mod SenderLaws
 pub mod BoxLaws
 pub mod PlaceLaws
+pub mod WalkLaws

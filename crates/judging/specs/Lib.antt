@@ -3,3 +3,4 @@ pub mod Answers
 pub mod Judging
 pub mod Offer
 pub mod Ready
+pub mod Walk

@@ -6,21 +6,22 @@ ghost use Rattle.networks.specs.Answer.{given};
 ghost use Rattle.networks.specs.House.{house};
 ghost use Rattle.networks.specs.Judge.{verdictFrom};
 ghost use Rattle.networks.specs.Network.{ownBoxes};
-ghost use Prim.Native.Nat.{_<_};
+ghost use Prim.Native.Nat.{_≤_, _<_};
 ghost use Rattle.lists.specs.Rising.{Rising};
 ghost use Rattle.records.specs.Entries.{EntriesRoom, entryCount, entryId};
 ghost use Rattle.records.specs.Form.{listLead};
-ghost use Rattle.records.specs.Layout.{Room, nodeCount};
+ghost use Rattle.records.specs.Layout.{Room, nodeCount, edgeCount};
 ghost use Rattle.reading.specs.Whole.{readNetwork, readList};
 ghost use Rattle.judging.specs.Answers.{answerOf};
 ghost use Rattle.judging.specs.Judging.{highest};
 ghost use Rattle.judging.specs.Ready.{Ready, enteredAt, PlacedTo, withEntry};
+ghost use Rattle.judging.specs.Walk.{leadsUpTo, withWire};
 use crate::{Fault, Finding, Verdict};
 use crate::at_box::fault_at;
 use crate::senders::{held_route, node_route, offer};
 use numbers::u16_at;
 use records::{Form, edge_offset, entry_of, is_own, node_id, wide16};
-use routes::better;
+use routes::{Route, better};
 
 // Stores the row of the entry of the node in a row in places, where it is an own one with an entry. Answers whether it is
 // no own one, or has an entry.
@@ -56,4 +57,26 @@ pub fn place_entries(form: Form, network: &[u8], list: &[u8], places: &mut [u16;
         i += 1;
     }
     i
+}
+
+// Whether there is a j-th wire that leads to a box with an id up to node.
+fn leads_up_to(form: Form, network: &[u8], j: usize, node: u16) -> bool
+    requires { ⌜ Room form (now network) × (edgeCount (now network) ≤ 4096) ⌝ }
+    ensures { λ r. ⌜ r ≡ leadsUpTo form (now (network .entry)) j node ⌝ }
+{
+    if wide16(u16_at(network, 7)) <= j {
+        return false;
+    }
+    u16_at(network, edge_offset(form, network, j)) <= node
+}
+
+// The better of a route and what the j-th wire gives, where the wire leads to node; else the route.
+fn with_wire(form: Form, network: &[u8], list: &[u8], rows: &[u16; 65536], places: &[u16; 1024], j: usize, node: u16, due: Route) -> Route
+    requires { ⌜ Ready form (now network) (now list) (now rows) (now places) × (j < edgeCount (now network)) ⌝ }
+    ensures { λ r. ⌜ r ≡ withWire form (now (network .entry)) (now (list .entry)) j node due ⌝ }
+{
+    if u16_at(network, edge_offset(form, network, j)) != node {
+        return due;
+    }
+    better(due, offer(form, network, list, rows, places, j))
 }
