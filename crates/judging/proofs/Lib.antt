@@ -4,3 +4,4 @@ pub mod SenderLaws
 pub mod BoxLaws
 pub mod PlaceLaws
 pub mod WalkLaws
+pub mod SearchLaws

@@ -5,9 +5,10 @@ use mathlib.Core.List.{List, []}
 use lib.Dec.{eqb}
 use lib.ListN.{take, drop}
 use Rattle.routes.specs.declared.Route.{Route}
-use Rattle.networks.specs.Answer.{Answer, refused}
+use Rattle.networks.specs.Answer.{Answer, given, refused}
 use Rattle.networks.specs.House.{house}
-use Rattle.networks.specs.Judge.{Verdict, judge}
+use Rattle.networks.specs.Judge.{Verdict, verdictFrom, judge}
+use Rattle.networks.specs.Network.{ownBoxes}
 use Rattle.records.specs.Entries.{listRefusal, entryOffset, entryOf}
 use Rattle.records.specs.Form.{version1, listLead}
 use Rattle.records.specs.Layout.{nodeOffset}
@@ -31,3 +32,8 @@ judgeRecords network list =
     unless (networkRefusal network)
     (unless (listRefusal list)
     (judge (house highest) (readNetwork version1 network) (readList version1 list)))
+
+-- the verdict on what two records say, where every own box has an entry
+unfoldable pub verdictAt : Form → List ℕ → List ℕ → Answer (Verdict Route)
+verdictAt f network list =
+    given (verdictFrom (house highest) (readNetwork f network) (readList f list) 0 (ownBoxes (readNetwork f network)))

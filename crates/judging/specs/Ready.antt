@@ -5,6 +5,7 @@ use mathlib.Core.Bool.{Bool, true, cond, not, _&&_, _||_}
 use mathlib.Core.List.{List}
 use lib.Dec.{ltb}
 use lib.ListN.{getD, set}
+use Rattle.lists.specs.Codec.{Bytes}
 use Rattle.records.specs.Entries.{entryCount, entryOf}
 use Rattle.records.specs.Fine.{NetworkFine, EntriesFine}
 use Rattle.records.specs.Form.{Usable, listLead}
@@ -26,6 +27,7 @@ pub record Listed (f : Form) (network list places : List ℕ) : Type 0 where
 
 pub record Ready (f : Form) (network list rows places : List ℕ) : Type 0 where
   pub listed : Listed f network list places
+  pub small : Bytes network
   pub filled : Filled f network rows
 
 -- the node in a row is no own one, or the list has an entry for it

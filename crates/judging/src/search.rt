@@ -1,19 +1,13 @@
 // The search for the first fault.
 ghost use mathlib.Core.Path.{_≡_};
 ghost use lib.ListN.{length};
+ghost use Rattle.lists.specs.Codec.{Bytes};
 ghost use Rattle.lists.specs.First.{firstBad};
-ghost use Rattle.networks.specs.Answer.{given};
-ghost use Rattle.networks.specs.House.{house};
-ghost use Rattle.networks.specs.Judge.{verdictFrom};
-ghost use Rattle.networks.specs.Network.{ownBoxes};
 ghost use Prim.Native.Nat.{_≤_, _<_};
 ghost use Rattle.lists.specs.Rising.{Rising};
 ghost use Rattle.records.specs.Entries.{EntriesRoom, entryCount, entryId};
 ghost use Rattle.records.specs.Form.{listLead};
 ghost use Rattle.records.specs.Layout.{Room, nodeCount, edgeCount};
-ghost use Rattle.reading.specs.Whole.{readNetwork, readList};
-ghost use Rattle.judging.specs.Answers.{answerOf};
-ghost use Rattle.judging.specs.Judging.{highest};
 ghost use Rattle.judging.specs.Ready.{Ready, enteredAt, PlacedTo, withEntry};
 ghost use Rattle.judging.specs.Walk.{leadsUpTo, withWire};
 use crate::{Fault, Finding, Verdict};
@@ -47,6 +41,7 @@ pub fn place_entries(form: Form, network: &[u8], list: &[u8], places: &mut [u16;
     requires { ⌜ Room form (now network) × EntriesRoom form listLead (now list) × Rising (entryId form listLead (now list)) (entryCount (now list)) × (length (now places) ≡ 1024) ⌝ }
     ensures first { λ r. ⌜ r ≡ firstBad (enteredAt form (now (network .entry)) (now (list .entry))) (nodeCount (now (network .entry))) ⌝ }
     ensures table { λ r. ⌜ PlacedTo form (now (network .entry)) (now (list .entry)) (now (places .exit)) r ⌝ }
+    ensures bytes { λ _. ⌜ Bytes (now (network .entry)) ⌝ }
 {
     let n = wide16(u16_at(network, 5));
     let mut i = 0;

@@ -1,3 +1,4 @@
+use native.Mathlib.Omega.{arith}
 use Prim.Native.Nat.{_-_}
 use Rattle.judging.proofs.PlaceLaws.{Placing, placing}
 use borrow.Author.Needs.{needs}
@@ -33,7 +34,7 @@ place-entry-requires c κs = search (needs, placing)
 
 -- src/search.rt:54:13
 returns : tie.Need-returns Inv-loop μ-loop
-returns c = search (needs, placing)
+returns c = (search placing, (search placing, λ i. omega (arith, c .before .before .before .before .before .before .before .before .shared-slice-known .given i)))
 
 -- src/search.rt:56:9
 add-i : tie.Need-add-i Inv-loop μ-loop
@@ -49,7 +50,7 @@ loop-again c = search (needs, placing)
 
 -- src/search.rt:45:1
 returns-2 : tie.Need-returns-2 Inv-loop μ-loop
-returns-2 c = search (needs, placing)
+returns-2 c = (search placing, (search placing, λ i. omega (arith, c .before .before .before .before .before .shared-slice-known .given i)))
 
 pub place-entries-spec : {M : Type 1} → statement M
 place-entries-spec =
