@@ -44,3 +44,7 @@ withEntry f network list i places =
     cond (isOwn f network i && ltb (entryOf f listLead list (nodeId f network i)) (entryCount list))
     (set places i (entryOf f listLead list (nodeId f network i)))
     places
+
+-- the same, shut: what the search carries through its loops
+unfoldable pub Prepared : Form → List ℕ → List ℕ → List ℕ → List ℕ → Type 0
+Prepared f network list rows places = Ready f network list rows places

@@ -8,7 +8,9 @@ ghost use Rattle.lists.specs.Rising.{Rising};
 ghost use Rattle.records.specs.Entries.{EntriesRoom, entryCount, entryId};
 ghost use Rattle.records.specs.Form.{listLead};
 ghost use Rattle.records.specs.Layout.{Room, nodeCount, edgeCount};
-ghost use Rattle.judging.specs.Ready.{Ready, enteredAt, PlacedTo, withEntry};
+ghost use Rattle.judging.specs.Answers.{answerOf};
+ghost use Rattle.judging.specs.Judging.{verdictAt};
+ghost use Rattle.judging.specs.Ready.{Prepared, Ready, enteredAt, PlacedTo, withEntry};
 ghost use Rattle.judging.specs.Walk.{leadsUpTo, withWire};
 use crate::{Fault, Finding, Verdict};
 use crate::at_box::fault_at;
@@ -74,4 +76,46 @@ fn with_wire(form: Form, network: &[u8], list: &[u8], rows: &[u16; 65536], place
         return due;
     }
     better(due, offer(form, network, list, rows, places, j))
+}
+
+// The first fault by rising id, or a pass. Wires stand by their to end, so that each is looked at once.
+pub fn search(form: Form, network: &[u8], list: &[u8], rows: &[u16; 65536], places: &[u16; 1024]) -> Verdict
+    requires { ⌜ Prepared form (now network) (now list) (now rows) (now places) ⌝ }
+    ensures { λ r. ⌜ answerOf r ≡ verdictAt form (now (network .entry)) (now (list .entry)) ⌝ }
+{
+    let n = wide16(u16_at(network, 5));
+    let mut i = 0;
+    let mut j = 0;
+    let mut count: usize = 0;
+    let verdict = 'nodes: loop {
+        if n <= i {
+            break 'nodes Verdict::Pass(count);
+        }
+        let row = i;
+        i += 1;
+        if !is_own(form, network, row) {
+            continue 'nodes;
+        }
+        count += 1;
+        let node = node_id(form, network, row);
+        let mut due = node_route(form, network, row);
+        while leads_up_to(form, network, j, node) {
+            due = with_wire(form, network, list, rows, places, j, node, due);
+            j += 1;
+        }
+        let held = held_route(form, network, list, places, row);
+        match fault_at(form, network, row, held, due) {
+            Fault::NoFault => {}
+            Fault::FaultDue(route) => {
+                break 'nodes Verdict::NotDue(Finding { node, count, route });
+            }
+            Fault::FaultPromise(route) => {
+                break 'nodes Verdict::PromiseBroken(Finding { node, count, route });
+            }
+            Fault::FaultDemand(route) => {
+                break 'nodes Verdict::DemandUnmet(Finding { node, count, route });
+            }
+        }
+    };
+    verdict
 }
