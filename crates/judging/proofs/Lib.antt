@@ -5,3 +5,4 @@ pub mod BoxLaws
 pub mod PlaceLaws
 pub mod WalkLaws
 pub mod SearchLaws
+pub mod EntryLaws

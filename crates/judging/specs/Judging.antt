@@ -27,11 +27,15 @@ unless n a = cond (eqb (n .number) 0) a (refused (n .number) (n .place))
 abbrev pub highest : ℕ
 highest = 65535
 
+-- the judge's answer on what two records say
+unfoldable pub judgeAt : Form → List ℕ → List ℕ → Answer (Verdict Route)
+judgeAt f network list = judge (house highest) (readNetwork f network) (readList f list)
+
 unfoldable pub judgeRecords : List ℕ → List ℕ → Answer (Verdict Route)
 judgeRecords network list =
     unless (networkRefusal network)
     (unless (listRefusal list)
-    (judge (house highest) (readNetwork version1 network) (readList version1 list)))
+    (judgeAt version1 network list))
 
 -- the verdict on what two records say, where every own box has an entry
 unfoldable pub verdictAt : Form → List ℕ → List ℕ → Answer (Verdict Route)

@@ -1,7 +1,10 @@
 // Judging: the first fault of a proposal by rising id, or a pass.
 mod at_box;
+mod entry;
 mod search;
 mod senders;
+
+pub use entry::judge;
 
 use records::Refusal;
 use routes::Route;
