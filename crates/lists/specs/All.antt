@@ -4,7 +4,7 @@
 --     all, any              tests, to facts and back
 use mathlib.Core.Path.{_≡_, refl, ap₂, _∙_, ap}
 use mathlib.Core.Bool.{Bool, true, false, _&&_, _||_, false≢true}
-use mathlib.Core.List.{List, [], _∷_}
+use mathlib.Core.List.{List, [], _∷_, _++_}
 use Prim.Native.Nat.{_<_}
 use native.Mathlib.Omega.{arith}
 use lib.ListN.{length}
@@ -34,6 +34,10 @@ module _ {A : Type 0} where
   pub all-of : {P : A → Type 0} (xs : List A) → ((x : A) → P x) → All P xs
   all-of [] f = tt
   all-of (x ∷ xs) f = (f x, all-of xs f)
+
+  pub all-append : (P : A → Type 0) (xs ys : List A) → All P xs → All P ys → All P (xs ++ ys)
+  all-append P [] ys h k = k
+  all-append P (x ∷ xs) ys h k = (h .0, all-append P xs ys (h .1) k)
 
   -- a fact at every element for every index is, at every element, a fact for every index
   pub all-each : {I : Type 0} (P : I → A → Type 0) (xs : List A) → ((k : I) → All (P k) xs) → All (λ (x : A). (k : I) → P k x) xs

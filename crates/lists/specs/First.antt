@@ -1,16 +1,17 @@
 -- The first of n places at which a test fails, or n where it fails at none: the one definition behind every "lowest place".
 --     first-none, first-here     its value, from what is known of the places
 --     first-all, first-fails     what its value tells
---     every                      whether it fails nowhere
+--     every                      whether it fails nowhere, and where it does not
 --     Passed, passed-..          what a loop knows at place i, and its two exits
 use Prim.Native.Nat.{ℕ, zero, suc, _+_, _<_, _≤_, zero-le, suc-le-suc}
 use native.Mathlib.Nat.{le-of-suc-le-suc, not-suc-le-zero}
 use native.Mathlib.Omega.{arith}
-use mathlib.Core.Bool.{Bool, true, false, cond}
-use mathlib.Core.Path.{_≡_, refl, ap, sym}
+use mathlib.Core.Bool.{Bool, true, false, cond, _&&_}
+use mathlib.Core.Path.{_≡_, refl, ap, sym, _∙_}
 use lib.Dec.{eqb}
 use borrow.Author.Count.{below-more}
-use borrow.Author.Tests.{eq-eqb, ne-eqb, eqb-true}
+use borrow.Author.Tests.{eq-eqb, ne-eqb, eqb-true, eqb-false}
+use Rattle.lists.specs.Test.{and-l, and-r, and-i, same-test}
 
 unfoldable pub firstBad : (ℕ → Bool) → ℕ → ℕ
 firstBad ok zero = 0
@@ -77,6 +78,28 @@ pub every-all : (ok : ℕ → Bool) (n : ℕ) → every ok n ≡ true → (k : �
 unfolding every
 every-all ok n e k l = let f : firstBad ok n ≡ n = eqb-true _ _ e in first-all ok n k (omega arith)
 
+pub every-next : (ok : ℕ → Bool) (n : ℕ) → every ok (n + 1) ≡ every ok n && ok n
+every-next ok n =
+    same-test (every ok (n + 1)) (every ok n && ok n)
+    (λ e. and-i (every ok n) (ok n) (every-yes ok n (λ k l. every-all ok (n + 1) e k (omega arith))) (every-all ok (n + 1) e n (omega arith)))
+    (λ e. every-yes ok (n + 1) (below-more (λ k. ok k ≡ true) n (every-all ok n (and-l (every ok n) (ok n) e)) (and-r (every ok n) (ok n) e)))
+
+-- where they do not all pass, one fails
+pub every-some : (ok : ℕ → Bool) (n : ℕ) → every ok n ≡ false → (i : ℕ) × ((i < n) × (ok i ≡ false))
+unfolding every
+every-some ok n e =
+    let d : firstBad ok n ≡ n → ⊥ = eqb-false (firstBad ok n) n e in
+    let m : firstBad ok n ≤ n = first-le ok n in
+    let l : firstBad ok n < n = omega arith in
+    (firstBad ok n, (l, first-fails ok n l))
+
+pub some-every : (ok : ℕ → Bool) (n i : ℕ) → i < n → ok i ≡ false → every ok n ≡ false
+some-every ok n i l e = go (every ok n) refl
+  where
+    go : (t : Bool) → every ok n ≡ t → t ≡ false
+    go true h = sym (every-all ok n h i l) ∙ e
+    go false h = refl
+
 -- what a loop knows at place i: every place before it passes. Shut, so that `search` finds it by its name.
 unfoldable pub Passed : (ℕ → Bool) → ℕ → Type 0
 Passed ok i = (k : ℕ) → k < i → ok k ≡ true
@@ -103,3 +126,23 @@ pub first-ext : (f g : ℕ → Bool) (n : ℕ) → ((k : ℕ) → k < n → f k 
 unfolding firstBad
 first-ext f g zero h = refl
 first-ext f g (suc n) h = rw (h 0 (suc-le-suc zero-le), first-ext (λ k. f (suc k)) (λ k. g (suc k)) n (λ k l. h (suc k) (suc-le-suc l)))
+
+-- the same from the front
+eqb-suc : (a b : ℕ) → eqb (suc a) (suc b) ≡ eqb a b
+eqb-suc a b = go (eqb a b) refl
+  where
+    go : (t : Bool) → eqb a b ≡ t → eqb (suc a) (suc b) ≡ t
+    go true e = eq-eqb (suc a) (suc b) (ap suc (eqb-true a b e))
+    go false e = ne-eqb (suc a) (suc b) (λ q. eqb-false a b e (omega arith))
+
+pub every-front : (ok : ℕ → Bool) (n : ℕ) → every ok (suc n) ≡ ok 0 && every (λ k. ok (suc k)) n
+unfolding every firstBad
+every-front ok n = go (ok 0)
+  where
+    go : (t : Bool) → eqb (cond t (suc (firstBad (λ k. ok (suc k)) n)) 0) (suc n) ≡ t && eqb (firstBad (λ k. ok (suc k)) n) n
+    go true = eqb-suc (firstBad (λ k. ok (suc k)) n) n
+    go false = ne-eqb 0 (suc n) (λ q. omega arith)
+
+pub every-ext : (f g : ℕ → Bool) (n : ℕ) → ((k : ℕ) → k < n → f k ≡ g k) → every f n ≡ every g n
+unfolding every
+every-ext f g n h = ap (λ (m : ℕ). eqb m n) (first-ext f g n h)

@@ -5,8 +5,11 @@ pub mod Filter
 pub mod Sorted
 pub mod First
 pub mod Rising
+pub mod Index
+pub mod Walk
 pub mod Stride
 pub mod Rows
+pub mod Table
 pub mod Codec
 pub mod Laid
 pub mod Stores

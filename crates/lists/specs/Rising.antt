@@ -1,6 +1,6 @@
 -- A table of ids that rise strictly, by place.
 --     least                 the least id that may stand at a place
---     place                 where an id stands, by a search from the front
+--     place, place-..       where an id stands, by a search from the front
 --     Between, mid-..       what a search by halving knows
 use Prim.Native.Nat.{ℕ, zero, suc, _+_, _-_, _/_, _<_, _≤_, zero-le}
 use native.Mathlib.Nat.{le-of-suc-le-suc, not-suc-le-zero, eq-or-lt-of-le}
@@ -8,10 +8,10 @@ use native.Mathlib.Numerals.{add-one}
 use native.Mathlib.Omega.{arith}
 use mathlib.Core.Bool.{not}
 use mathlib.Core.Logic.{⊎-elim}
-use mathlib.Core.Path.{_≡_, refl, sym}
+use mathlib.Core.Path.{_≡_, refl, ap, sym}
 use lib.Dec.{eqb}
-use borrow.Author.Tests.{eq-eqb, ne-eqb}
-use Rattle.lists.specs.First.{firstBad, first-here, first-none}
+use borrow.Author.Tests.{eq-eqb, ne-eqb, eqb-true, not-false}
+use Rattle.lists.specs.First.{firstBad, first-here, first-none, first-fails, first-ext}
 use Rattle.lists.specs.Test.{le-or-lt}
 
 -- the least id that may stand at place k: above the one before
@@ -26,6 +26,12 @@ least-start ids = refl
 pub least-next : (ids : ℕ → ℕ) (i : ℕ) → ids i + 1 ≡ least ids (i + 1)
 unfolding least
 least-next ids i = rw (add-one i) (omega arith)
+
+-- ids that agree everywhere have the same least
+pub least-ext : (ids other : ℕ → ℕ) → ((k : ℕ) → ids k ≡ other k) → (i : ℕ) → least ids i ≤ ids i → least other i ≤ other i
+unfolding least
+least-ext ids other e zero h = omega (arith, e 0)
+least-ext ids other e (suc i) h = omega (arith, e i, e (suc i))
 
 unfoldable pub Rising : (ℕ → ℕ) → ℕ → Type 0
 Rising ids n = (p q : ℕ) → p < q → q < n → ids p < ids q
@@ -46,6 +52,23 @@ least-rising ids n h = rising ids n (λ k l. let z = rw add-one at (h (k + 1) l)
 -- the first place at which x stands, or n
 unfoldable pub place : (ℕ → ℕ) → ℕ → ℕ → ℕ
 place ids x n = firstBad (λ k. not (eqb (ids k) x)) n
+
+-- where it stands, and that it stands there
+pub place-found : (ids : ℕ → ℕ) (x n : ℕ) → place ids x n < n → ids (place ids x n) ≡ x
+unfolding place
+place-found ids x n l = eqb-true (ids (place ids x n)) x (not-false _ (first-fails (λ k. not (eqb (ids k) x)) n l))
+
+pub place-is : (ids : ℕ → ℕ) (x n i : ℕ) → Rising ids n → i < n → ids i ≡ x → place ids x n ≡ i
+unfolding Rising place
+place-is ids x n i r l e =
+    first-here (λ k. not (eqb (ids k) x)) n i l
+    (λ k p. let z = r k i p l in simp (ne-eqb (ids k) x (λ q. omega arith)))
+    (simp (eq-eqb (ids i) x e))
+
+-- ids that agree below n have the same places
+pub place-ext : (ids other : ℕ → ℕ) (x n : ℕ) → ((k : ℕ) → k < n → ids k ≡ other k) → place ids x n ≡ place other x n
+unfolding place
+place-ext ids other x n h = first-ext _ _ n (λ k l. ap (λ (i : ℕ). not (eqb i x)) (h k l))
 
 -- what bisection knows: x stands neither below lo nor from hi on
 pub record Between (ids : ℕ → ℕ) (n x lo hi : ℕ) : Type 0 where

@@ -18,6 +18,19 @@ pub cond-off : {A : Type 0} (t : Bool) (a z e : A) → (a ≡ e → ⊥) → con
 cond-off true a z e n h = absurd (n h)
 cond-off false a z e n h = (refl, h)
 
+-- a function of a choice, and choices that are none
+pub cond-ap : {A B : Type 0} (f : A → B) (t : Bool) (x y : A) → f (cond t x y) ≡ cond t (f x) (f y)
+cond-ap f true x y = refl
+cond-ap f false x y = refl
+
+pub cond-same : {A : Type 0} (t : Bool) (x : A) → cond t x x ≡ x
+cond-same true x = refl
+cond-same false x = refl
+
+pub cond-test : (t : Bool) → cond t true false ≡ t
+cond-test true = refl
+cond-test false = refl
+
 -- both
 pub and-l : (a b : Bool) → a && b ≡ true → a ≡ true
 and-l true b h = refl
@@ -52,6 +65,10 @@ or-f-l false b h = refl
 pub or-f-r : (a b : Bool) → a || b ≡ false → b ≡ false
 or-f-r true b h = absurd (true≢false h)
 or-f-r false b h = h
+
+pub or-second : (a b : Bool) → a ≡ false → a || b ≡ true → b ≡ true
+or-second true b e h = absurd (true≢false e)
+or-second false b e h = h
 
 pub or-swap : (a b c d : Bool) → (a || b) || (c || d) ≡ (a || c) || (b || d)
 or-swap true b c d = refl

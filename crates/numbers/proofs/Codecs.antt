@@ -7,6 +7,7 @@ use native.Mathlib.Numerals.{add-one}
 use native.Mathlib.Omega.{arith}
 use lib.ListN.{length, getD, take, drop}
 use lib.Seq.{getD-append-add, getD-append-seam, drop-cons}
+use Rattle.lists.specs.All.{All}
 use Rattle.lists.specs.Codec.{Codec, pair, named}
 use Rattle.numbers.specs.BigEndian.{u16At, u32At, u16Bytes, u32Bytes}
 
@@ -27,6 +28,10 @@ u16-forth b o h w =
     sym (ap (take 2) (drop-cons b o 0 (omega arith) ∙ ap (_∷_ (getD b o 0)) (drop-cons b (suc o) 0 (omega arith)))
     ∙ ap₂ (λ (x y : ℕ). x ∷ y ∷ []) high low)
 
+pub u16-small : (v : ℕ) → v < 65536 → All (λ (x : ℕ). x < 256) (u16Bytes v)
+unfolding u16Bytes
+u16-small v h = (omega arith, (omega arith, tt))
+
 -- two bytes
 abbrev pub u16 : Codec ℕ
 u16 = record {
@@ -38,6 +43,8 @@ u16 = record {
   size = length-u16;
   back = λ pre v post h. u16-back pre v post;
   forth = u16-forth;
+  small = u16-small;
+  made = λ pre v post h z. (z (length pre), z (length pre + 1));
 }
 
 pub u16-below : (b : List ℕ) (o : ℕ) → (getD b o 0 < 256) × (getD b (o + 1) 0 < 256) → u16At b o < 65536
@@ -63,6 +70,7 @@ u32 = named (pair u16 u16)
     (λ v h. omega arith)
     (λ b o h. h)
     u32-formed
+    (λ b o v h z w e. w)
 
 -- the codec of four bytes is that of the definitions
 pub u32-value : (b : List ℕ) (o : ℕ) → u32 .value b o ≡ u32At b o

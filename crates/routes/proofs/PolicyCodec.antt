@@ -1,6 +1,6 @@
 -- A policy written and read back, and read and written back: its codec.
 -- The bytes that it takes for formed are those that `policyFormed` accepts.
-use mathlib.Core.Path.{_≡_, refl, sym, _∙_}
+use mathlib.Core.Path.{_≡_, refl, sym, ap, _∙_}
 use mathlib.Core.Bool.{Bool, true, false, cond, false≢true}
 use mathlib.Core.List.{List}
 use Prim.Native.Nat.{ℕ, _+_, _<_}
@@ -96,8 +96,29 @@ policy-here b o h =
     let flag : cond (eqb (v .1 .1 .1 .1 .0) 1) 1 0 ≡ v .1 .1 .1 .1 .0 = rw eight at (flag-byte b o (h .1)) in
     λ i. (v .0, (v .1 .0, (v .1 .1 .0, (v .1 .1 .1 .0, (flag i, (v .1 .1 .1 .1 .1 .0, v .1 .1 .1 .1 .1 .1))))))
 
+-- bytes that hold a policy are formed
+pub policy-made : (b : List ℕ) (o : ℕ) (p : Policy) → PolicyFits p → Bytes b → seven .Formed b o → seven .value b o ≡ ofPolicy p → PolicyFormed b o
+unfolding policyFormed
+policy-made b o p h z formed e = (z, go (p .flag) refl)
+  where
+    eight : o + 2 + 2 + 2 + 2 ≡ o + 8
+    eight = omega arith
+
+    nine : o + 2 + 2 + 2 + 2 + 1 ≡ o + 9
+    nine = omega arith
+
+    flag : getD b (o + 8) 0 ≡ cond (p .flag) 1 0
+    flag = ap (λ (k : ℕ). getD b k 0) (sym eight) ∙ ap (λ (x : Seven). x .1 .1 .1 .1 .0) e
+
+    preference : u16At b (o + 9) ≡ p .preference
+    preference = ap (u16At b) (sym nine) ∙ ap (λ (x : Seven). x .1 .1 .1 .1 .1 .0) e
+
+    go : (t : Bool) → p .flag ≡ t → cond (eqb (getD b (o + 8) 0) 0) (eqb (u16At b (o + 9)) 0) (eqb (getD b (o + 8) 0) 1) ≡ true
+    go true q = rw (flag, q)
+    go false q = rw (flag, q, preference, h .4 q)
+
 abbrev pub policy-parts : Codec Policy
-policy-parts = named seven toPolicy ofPolicy PolicyFits PolicyFormed policy-fits policy-there policy-formed policy-here
+policy-parts = named seven toPolicy ofPolicy PolicyFits PolicyFormed policy-fits policy-there policy-formed policy-here policy-made
 
 pub policy-bytes : (p : Policy) → policyBytes p ≡ policy-parts .bytes p
 unfolding policyBytes u16Bytes

@@ -16,7 +16,7 @@ use numbers::put_u16;
 use numbers::u16_at;
 
 // Whether the n bytes of b at an offset are zero.
-fn all_zero(b: &[u8], at: usize, n: usize) -> bool
+pub fn all_zero(b: &[u8], at: usize, n: usize) -> bool
     requires { ⌜ at + n ≤ length (now b) ⌝ }
     ensures { λ r. ⌜ r ≡ zeros (now (b .entry)) at n ⌝ }
 {

@@ -7,6 +7,7 @@ mod met;
 mod order;
 mod wire;
 
+pub use form::all_zero;
 pub use form::policy_at;
 pub use form::policy_formed;
 pub use form::put_policy;

@@ -1,0 +1,48 @@
+// The judge's entry point.
+ghost use mathlib.Core.Path.{_≡_};
+ghost use Rattle.records.specs.Fine.{NetworkFine, EntriesFine};
+ghost use Rattle.records.specs.Form.{Usable, listLead};
+ghost use Rattle.records.specs.Rows.{Filled};
+ghost use Rattle.judging.specs.Answers.{answerOf};
+ghost use Rattle.judging.specs.Judging.{judgeAt, judgeRecords};
+use crate::Verdict;
+use crate::search::{place_entries, search};
+use numbers::u16_at;
+use records::{Check, Form, Refusal, check_list, check_network_rows, node_id, wide16};
+
+// Judges a list against a network, both of them not refused: 17 before the search.
+fn judge_sound(form: Form, network: &[u8], list: &[u8], rows: &[u16; 65536]) -> Verdict
+    requires { ⌜ Usable form × NetworkFine form (now network) × EntriesFine form listLead (now list) × Filled form (now network) (now rows) ⌝ }
+    ensures { λ r. ⌜ answerOf r ≡ judgeAt form (now (network .entry)) (now (list .entry)) ⌝ }
+{
+    let mut places = [0u16; 1024];
+    let row = place_entries(form, network, list, &mut places);
+    if row < wide16(u16_at(network, 5)) {
+        return Verdict::Refused(Refusal::NoEntry(node_id(form, network, row)));
+    }
+    search(form, network, list, rows, &places)
+}
+
+// Judges a list record against a network record: the network's refusals, the list's, an own box without an entry, and then
+// the first fault or a pass.
+pub fn judge(network: &[u8], list: &[u8]) -> Verdict
+    ensures { λ r. ⌜ answerOf r ≡ judgeRecords (now (network .entry)) (now (list .entry)) ⌝ }
+{
+    let mut rows = [0u16; 65536];
+    match check_network_rows(network, &mut rows) {
+        Check::Refused(r) => return Verdict::Refused(r),
+        Check::Fine => {}
+    }
+    match check_list(list) {
+        Check::Refused(r) => Verdict::Refused(r),
+        Check::Fine => judge_sound(
+            Form {
+                route: 9,
+                most: 512,
+            },
+            network,
+            list,
+            &rows,
+        ),
+    }
+}

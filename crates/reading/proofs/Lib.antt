@@ -1,0 +1,14 @@
+-- Each part of a record written and read back, and read and written back.
+pub mod DemandCodec
+pub mod BoxCodec
+pub mod RowCodecs
+-- Whole records.
+pub mod Joins
+pub mod Said
+pub mod NetworkBytes
+pub mod ReadSound
+pub mod WrittenFine
+pub mod EntryBytes
+pub mod EntryKinds
+pub mod Bridges
+pub mod Lowest

@@ -1,0 +1,10 @@
+pub mod LayoutLaws
+pub mod NodeLaws
+pub mod PolicyLaws
+pub mod RowLaws
+pub mod EdgeLaws
+pub mod LeftLaws
+pub mod EntryLaws
+pub mod EntryRefusals
+pub mod NetworkRefusals
+pub mod LookupLaws

@@ -1,0 +1,68 @@
+-- The search by halving, as the code goes: what a place at the middle tells, and the ids of nodes and entries.
+use Prim.Native.Nat.{ℕ, _+_, _≤_, _<_}
+use native.Mathlib.Omega.{arith}
+use mathlib.Core.Path.{_≡_, sym, ap, _∙_, subst}
+use mathlib.Core.List.{List}
+use lib.ListN.{length}
+use Rattle.lists.specs.Rising.{Rising, Between, between-none, mid, mid-up, mid-down, mid-hit, place}
+use Rattle.lists.specs.Stride.{at, at-fits}
+use Rattle.numbers.specs.BigEndian.{u16At}
+use Rattle.records.specs.Form.{nodeWidth, entryWidth}
+use Rattle.records.specs.Layout.{Room, nodeCount, nodePart, nodeOffset}
+use Rattle.records.specs.Node.{nodeId, rowOf}
+use Rattle.records.specs.Entries.{EntriesRoom, entryCount, entryOffset, entryId, entryOf}
+use Rattle.records.specs.Ids.{idAt, node-ids, entry-ids}
+use Rattle.records.specs.Offsets.{nodes-room}
+use Rattle.records.specs.declared.Form.{Form}
+
+module _ (b : List ℕ) (base size n id lo hi : ℕ) where
+  pub find-none : Between (idAt b base size) n id lo hi → hi ≤ lo → n ≡ place (idAt b base size) id n
+  find-none h l = sym (between-none h l)
+
+  module _ (h : Between (idAt b base size) n id lo hi) (l : lo < hi) where
+    pub find-place : n ≤ 65535 → mid lo hi ≤ 65535
+    find-place m = let g = h .high in omega arith
+
+    module _ (o : ℕ) (e : o ≡ at base size (mid lo hi)) where
+      pub find-room : 2 ≤ size → at base size n ≤ length b → o + 2 ≤ length b
+      find-room m r = let g = h .high in omega (arith, at-fits base size (mid lo hi) n (omega arith))
+
+      module _ (found : ℕ) (p : found ≡ u16At b o) (rise : Rising (idAt b base size) n) where
+        found-is : found ≡ idAt b base size (mid lo hi)
+        unfolding idAt
+        found-is = rw (← e) p
+
+        pub find-hit : found ≡ id → mid lo hi ≡ place (idAt b base size) id n
+        find-hit q = mid-hit (idAt b base size) n id lo hi found rise h l found-is q
+
+        pub find-up : found < id → Between (idAt b base size) n id (mid lo hi + 1) hi
+        find-up q = mid-up (idAt b base size) n id lo hi found rise h l found-is q
+
+        pub find-down : (found ≡ id → ⊥) → id ≤ found → Between (idAt b base size) n id lo (mid lo hi)
+        find-down d q = mid-down (idAt b base size) n id lo hi found rise h l found-is d q
+
+module _ (f : Form) (b : List ℕ) (part n : ℕ) (e : part ≡ nodePart b) (c : n ≡ u16At b 5) where
+  pub rows-room : Room f b → at part (9 + f .route + f .route) n ≤ length b
+  unfolding nodeOffset nodeWidth
+  rows-room r = rw (e, c) (nodes-room f b r)
+
+  pub rows-rise : Rising (nodeId f b) (nodeCount b) → Rising (idAt b part (9 + f .route + f .route)) n
+  unfolding nodeWidth
+  rows-rise r = rw (e, c, node-ids f b) r
+
+  pub rows-found : (id r : ℕ) → r ≡ place (idAt b part (9 + f .route + f .route)) id n → r ≡ rowOf f b id
+  unfolding nodeWidth rowOf
+  rows-found id r h = rw (e, c, node-ids f b) at h
+
+module _ (f : Form) (lead : ℕ) (b : List ℕ) (n : ℕ) (c : n ≡ u16At b 5) where
+  pub entries-room : EntriesRoom f lead b → at 7 (lead + f .route) n ≤ length b
+  unfolding entryOffset entryWidth
+  entries-room r = rw c (r .whole)
+
+  pub entries-rise : Rising (entryId f lead b) (entryCount b) → Rising (idAt b 7 (lead + f .route)) n
+  unfolding entryWidth
+  entries-rise r = rw (c, entry-ids f lead b) r
+
+  pub entries-found : (id r : ℕ) → r ≡ place (idAt b 7 (lead + f .route)) id n → r ≡ entryOf f lead b id
+  unfolding entryWidth entryOf
+  entries-found id r h = rw (c, entry-ids f lead b) at h

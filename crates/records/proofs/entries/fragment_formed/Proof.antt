@@ -1,0 +1,25 @@
+use Rattle.records.proofs.EntryLaws.{fragments}
+use borrow.Author.Needs.{needs}
+use Rattle.records.proofs.entries.fragment_formed.Statement.{statement}
+use Rattle.records.proofs.entries.fragment_formed.Tie as tie
+use Rattle.records.proofs.entries.fragment_formed.Reads as reads
+use Rattle.records.proofs.entries.fragment_formed.Lts as lts
+
+-- src/entries.rt:24:16
+add-result : tie.Need-add-result
+add-result c = search needs
+
+-- src/entries.rt:24:14
+shared-slice-read-result : tie.Need-shared-slice-read-result
+shared-slice-read-result c = search needs
+
+-- src/entries.rt:19:1
+returns : tie.Need-returns
+returns c = search fragments
+
+-- src/entries.rt:19:1
+returns-2 : tie.Need-returns-2
+returns-2 c = search fragments
+
+pub fragment-formed-spec : {M : Type 1} → statement M
+fragment-formed-spec = tie.close (tie.spec add-result shared-slice-read-result returns returns-2)

@@ -1,0 +1,88 @@
+-- Rows and the table from ids to rows.
+--     ids-rise, row-..               the row of a node by its id, where ids rise
+--     entry-ids-rise, entry-..       the row of an entry by its id
+--     mark-..                        what the table tells of an id
+--     filled-once                    there is one filled table
+use Prim.Native.Nat.{ℕ, _+_, _-_, _≤_, _<_}
+use native.Mathlib.Omega.{arith}
+use mathlib.Core.Path.{_≡_, refl, sym, _∙_}
+use mathlib.Core.Bool.{Bool, true, false, cond}
+use mathlib.Core.List.{List}
+use lib.ListN.{length, getD}
+use lib.Seq.{ext-getD}
+use borrow.Author.Tests.{leb-true, ltb-true, lt-ltb}
+use Rattle.lists.specs.Rising.{Rising, least, least-rising, place-found, place-is}
+use Rattle.lists.specs.Test.{and-l}
+use Rattle.records.specs.Layout.{nodeCount}
+use Rattle.records.specs.Node.{nodeId, nodeOk, rowOf}
+use Rattle.records.specs.Edge.{boxed}
+use Rattle.records.specs.Entries.{entryCount, entryId, entryOk, entryOf}
+use Rattle.records.specs.Rows.{rowMark, Filled}
+use Rattle.records.specs.declared.Form.{Form}
+
+module _ (f : Form) (b : List ℕ) where
+  -- nodes that are all well formed have rising ids
+  pub ids-rise : (n : ℕ) → ((i : ℕ) → i < n → nodeOk f b i ≡ true) → Rising (nodeId f b) n
+  unfolding nodeOk
+  ids-rise n h = least-rising (nodeId f b) n (λ k l. leb-true (least (nodeId f b) k) (nodeId f b k) (and-l _ _ (h k l)))
+
+  module _ (id : ℕ) where
+    module _ (h : boxed f b id ≡ true) where
+      pub row-within : rowOf f b id < nodeCount b
+      unfolding boxed
+      row-within = ltb-true (rowOf f b id) (nodeCount b) h
+
+      pub row-found : nodeId f b (rowOf f b id) ≡ id
+      unfolding boxed rowOf
+      row-found = place-found (nodeId f b) id (nodeCount b) (ltb-true _ _ h)
+
+    -- a node with the id is in its row
+    pub row-is : (i : ℕ) → Rising (nodeId f b) (nodeCount b) → i < nodeCount b → nodeId f b i ≡ id → rowOf f b id ≡ i
+    unfolding rowOf
+    row-is i r l e = place-is (nodeId f b) id (nodeCount b) i r l e
+
+    pub row-boxed : (i : ℕ) → Rising (nodeId f b) (nodeCount b) → i < nodeCount b → nodeId f b i ≡ id → boxed f b id ≡ true
+    unfolding boxed
+    row-boxed i r l e = rw (row-is i r l e) (lt-ltb i (nodeCount b) l)
+
+    module _ (rows : List ℕ) (v : ℕ) (filled : Filled f b rows) (m : id < 65536) (e : v ≡ getD rows id 0) where
+      mark-is : v ≡ cond (boxed f b id) (rowOf f b id + 1) 0
+      unfolding Filled rowMark
+      mark-is = e ∙ filled id m
+
+      pub mark-none : v ≡ 0 → boxed f b id ≡ false
+      mark-none z = go (boxed f b id) mark-is
+        where
+          go : (t : Bool) → v ≡ cond t (rowOf f b id + 1) 0 → t ≡ false
+          go true q = absurd (omega arith)
+          go false q = refl
+
+      pub mark-boxed : (v ≡ 0 → ⊥) → boxed f b id ≡ true
+      mark-boxed z = go (boxed f b id) mark-is
+        where
+          go : (t : Bool) → v ≡ cond t (rowOf f b id + 1) 0 → t ≡ true
+          go true q = refl
+          go false q = absurd (z q)
+
+      pub mark-row : boxed f b id ≡ true → v ≡ rowOf f b id + 1
+      mark-row h = mark-is ∙ rw h
+
+module _ (f : Form) (lead : ℕ) (b : List ℕ) where
+  -- entries that are all well formed have rising ids
+  pub entry-ids-rise : (n : ℕ) → ((i : ℕ) → i < n → entryOk f lead b i ≡ true) → Rising (entryId f lead b) n
+  unfolding entryOk
+  entry-ids-rise n h = least-rising (entryId f lead b) n (λ k l. leb-true (least (entryId f lead b) k) (entryId f lead b k) (and-l _ _ (h k l)))
+
+  module _ (id : ℕ) where
+    pub entry-found : entryOf f lead b id < entryCount b → entryId f lead b (entryOf f lead b id) ≡ id
+    unfolding entryOf
+    entry-found l = place-found (entryId f lead b) id (entryCount b) l
+
+    -- an entry for the id is in its row
+    pub entry-is : (i : ℕ) → Rising (entryId f lead b) (entryCount b) → i < entryCount b → entryId f lead b i ≡ id → entryOf f lead b id ≡ i
+    unfolding entryOf
+    entry-is i r l e = place-is (entryId f lead b) id (entryCount b) i r l e
+
+pub filled-once : (f : Form) (b r s : List ℕ) → length r ≡ 65536 → length s ≡ 65536 → Filled f b r → Filled f b s → r ≡ s
+unfolding Filled
+filled-once f b r s p q h k = ext-getD 0 r s (p ∙ sym q) (λ i l. h i (omega arith) ∙ sym (k i (omega arith)))

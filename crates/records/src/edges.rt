@@ -1,0 +1,143 @@
+// Edges as bytes, read by the table from ids to rows.
+ghost use mathlib.Core.Path.{_≡_};
+ghost use Prim.Native.Nat.{_+_, _*_, _≤_, _<_};
+ghost use mathlib.Core.Bool.{true};
+ghost use lib.ListN.{length, set};
+ghost use Rattle.lists.specs.First.{firstBad};
+ghost use Rattle.lists.specs.Rising.{Rising, least};
+ghost use Rattle.numbers.specs.BigEndian.{u16At};
+ghost use Rattle.records.specs.Edge.{edgeKey, owned, endsFormed, edgeFormed, edgeOk, inputOk};
+ghost use Rattle.records.specs.Layout.{Room, nodeCount, edgeCount, edgeOffset};
+ghost use Rattle.records.specs.Node.{nodeId, rowOf};
+ghost use Rattle.records.specs.Rows.{Filled, LeftMarked, keyAfter, leftAfter};
+use crate::Form;
+use crate::layout::edge_offset;
+use crate::layout::wide16;
+use crate::nodes::is_own;
+use numbers::u16_at;
+
+// Whether an own node has the id, by the table from ids to rows.
+pub fn is_owned(form: Form, b: &[u8], rows: &[u16; 65536], id: u16) -> bool
+    requires { ⌜ Room form (now b) × Filled form (now b) (now rows) ⌝ }
+    ensures { λ r. ⌜ r ≡ owned form (now (b .entry)) id ⌝ }
+{
+    let row = wide16(rows[id as usize]);
+    if row == 0 {
+        return false;
+    }
+    is_own(form, b, row - 1)
+}
+
+// Whether both ends of an edge exist and differ, and the to end is own.
+fn ends_formed(form: Form, b: &[u8], rows: &[u16; 65536], to: u16, from: u16) -> bool
+    requires { ⌜ Room form (now b) × Filled form (now b) (now rows) ⌝ }
+    ensures { λ r. ⌜ r ≡ endsFormed form (now (b .entry)) to from ⌝ }
+{
+    if !is_owned(form, b, rows, to) {
+        return false;
+    }
+    if rows[from as usize] == 0 {
+        return false;
+    }
+    to != from
+}
+
+// Whether the edge at an offset is well formed.
+fn edge_formed(form: Form, b: &[u8], rows: &[u16; 65536], at: usize) -> bool
+    requires { ⌜ Room form (now b) × Filled form (now b) (now rows) × (at + 5 ≤ length (now b)) ⌝ }
+    ensures { λ r. ⌜ r ≡ edgeFormed form (now (b .entry)) at ⌝ }
+{
+    if !ends_formed(form, b, rows, u16_at(b, at), u16_at(b, at + 2)) {
+        return false;
+    }
+    b[at + 4] < b[9]
+}
+
+// What the edges are sorted by: the to end, then the from end.
+fn edge_key(b: &[u8], at: usize) -> usize
+    requires { ⌜ at + 5 ≤ length (now b) ⌝ }
+    ensures { λ r. ⌜ (r ≡ u16At (now (b .entry)) at * 65536 + u16At (now (b .entry)) (at + 2)) × (r < 4294967296) ⌝ }
+{
+    (u16_at(b, at) as usize) * 65536 + (u16_at(b, at + 2) as usize)
+}
+
+// Marks the row of the from end of the edge at an offset.
+fn mark_left(form: Form, b: &[u8], rows: &[u16; 65536], left: &mut [u8; 1024], at: usize)
+    requires { ⌜ Room form (now b) × Filled form (now b) (now rows) × (at + 5 ≤ length (now b)) × (edgeFormed form (now b) at ≡ true) ⌝ }
+    ensures { λ _. ⌜ now (left .exit) ≡ set (now (left .entry)) (rowOf form (now (b .entry)) (u16At (now (b .entry)) (at + 2))) 1 ⌝ }
+{
+    let row = wide16(rows[u16_at(b, at + 2) as usize]);
+    left[row - 1] = 1;
+}
+
+// Reads the j-th edge, which stands at an offset and whose key may be low at least. Where it is in order the row of its from
+// end is marked, and the answer is what the next key may be at least; else nothing is marked, and the answer is 0.
+fn read_edge(
+    form: Form,
+    b: &[u8],
+    rows: &[u16; 65536],
+    left: &mut [u8; 1024],
+    j: usize,
+    at: usize,
+    low: usize,
+) -> usize
+    requires { ⌜ Room form (now b) × Filled form (now b) (now rows) × (j < edgeCount (now b)) × (at ≡ edgeOffset form (now b) j) × (low ≡ least (edgeKey form (now b)) j) ⌝ }
+    ensures next { λ r. ⌜ r ≡ keyAfter form (now (b .entry)) j ⌝ }
+    ensures marks { λ _. ⌜ now (left .exit) ≡ leftAfter form (now (b .entry)) j (now (left .entry)) ⌝ }
+{
+    let key = edge_key(b, at);
+    if key < low {
+        return 0;
+    }
+    if !edge_formed(form, b, rows, at) {
+        return 0;
+    }
+    mark_left(form, b, rows, left, at);
+    key + 1
+}
+
+// The first of n edges that is ill formed or does not rise, or n. Marks the rows that the edges before it leave.
+pub fn bad_edge(form: Form, b: &[u8], rows: &[u16; 65536], left: &mut [u8; 1024], n: usize) -> usize
+    requires { ⌜ Room form (now b) × Filled form (now b) (now rows) × Rising (nodeId form (now b)) (nodeCount (now b)) × (n ≡ edgeCount (now b)) × (length (now left) ≡ 1024) × LeftMarked form (now b) 0 (now left) ⌝ }
+    ensures bad { λ r. ⌜ r ≡ firstBad (edgeOk form (now (b .entry))) n ⌝ }
+    ensures marks { λ r. ⌜ LeftMarked form (now (b .entry)) r (now (left .exit)) ⌝ }
+{
+    let mut j = 0;
+    let mut o = edge_offset(form, b, 0);
+    let mut low = 0;
+    while j < n {
+        low = read_edge(form, b, rows, left, j, o, low);
+        if low == 0 {
+            return j;
+        }
+        o += 5;
+        j += 1;
+    }
+    j
+}
+
+// Whether the i-th node is an own one, or an input that an edge leaves.
+fn input_left(form: Form, b: &[u8], left: &[u8; 1024], i: usize) -> bool
+    requires { ⌜ Room form (now b) × (i < nodeCount (now b)) × LeftMarked form (now b) (edgeCount (now b)) (now left) ⌝ }
+    ensures { λ r. ⌜ r ≡ inputOk form (now (b .entry)) i ⌝ }
+{
+    if is_own(form, b, i) {
+        return true;
+    }
+    left[i] == 1
+}
+
+// The first of n nodes that is an input without an edge out, or n.
+pub fn bad_input(form: Form, b: &[u8], left: &[u8; 1024], n: usize) -> usize
+    requires { ⌜ Room form (now b) × (n ≡ nodeCount (now b)) × LeftMarked form (now b) (edgeCount (now b)) (now left) ⌝ }
+    ensures { λ r. ⌜ r ≡ firstBad (inputOk form (now (b .entry))) n ⌝ }
+{
+    let mut i = 0;
+    while i < n {
+        if !input_left(form, b, left, i) {
+            return i;
+        }
+        i += 1;
+    }
+    i
+}

@@ -1,0 +1,58 @@
+// The row of a box and of an entry by id, found by halving.
+ghost use mathlib.Core.Path.{_≡_};
+ghost use Prim.Native.Nat.{_+_, _≤_};
+ghost use lib.ListN.{length};
+ghost use Rattle.lists.specs.Rising.{Rising, place};
+ghost use Rattle.lists.specs.Stride.{at};
+ghost use Rattle.records.specs.Entries.{entryCount, entryId, entryOf, EntriesRoom};
+ghost use Rattle.records.specs.Ids.{idAt};
+ghost use Rattle.records.specs.Layout.{Room, nodeCount};
+ghost use Rattle.records.specs.Node.{nodeId, rowOf};
+use crate::Form;
+use crate::layout::node_part;
+use crate::layout::stride;
+use numbers::u16_at;
+
+// The place of an id among n parts of one size behind a base, whose ids rise; n where no part has it.
+fn find(b: &[u8], base: usize, size: usize, n: usize, id: u16) -> usize
+    requires { ⌜ (base ≤ 8388608) × (2 ≤ size) × (size ≤ 64) × (n ≤ 65535) × (at base size n ≤ length (now b)) × Rising (idAt (now b) base size) n ⌝ }
+    ensures { λ r. ⌜ r ≡ place (idAt (now (b .entry)) base size) id n ⌝ }
+{
+    let mut lo = 0;
+    let mut hi = n;
+    while lo < hi {
+        let mid = lo + (hi - lo) / 2;
+        let found = u16_at(b, stride(base, size, mid));
+        if found == id {
+            return mid;
+        }
+        if found < id {
+            lo = mid + 1;
+        } else {
+            hi = mid;
+        }
+    }
+    n
+}
+
+// The row of the node with an id, or the number of nodes where no node has it.
+pub fn row_of(form: Form, b: &[u8], id: u16) -> usize
+    requires { ⌜ Room form (now b) × Rising (nodeId form (now b)) (nodeCount (now b)) ⌝ }
+    ensures { λ r. ⌜ r ≡ rowOf form (now (b .entry)) id ⌝ }
+{
+    find(
+        b,
+        node_part(b),
+        9 + form.route + form.route,
+        u16_at(b, 5) as usize,
+        id,
+    )
+}
+
+// The row of the entry for an id, or the number of entries where there is none.
+pub fn entry_of(form: Form, lead: usize, b: &[u8], id: u16) -> usize
+    requires { ⌜ EntriesRoom form lead (now b) × Rising (entryId form lead (now b)) (entryCount (now b)) ⌝ }
+    ensures { λ r. ⌜ r ≡ entryOf form lead (now (b .entry)) id ⌝ }
+{
+    find(b, 7, lead + form.route, u16_at(b, 5) as usize, id)
+}
