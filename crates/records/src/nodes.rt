@@ -154,7 +154,7 @@ pub fn no_own(form: Form, b: &[u8], n: usize) -> bool
     requires { ⌜ Room form (now b) × (n ≡ nodeCount (now b)) ⌝ }
     ensures { λ r. ⌜ r ≡ ownless form (now (b .entry)) ⌝ }
 {
-    let mut i = 0;
+    let mut i: usize = 0;
     while i < n {
         if is_own(form, b, i) {
             return false;
