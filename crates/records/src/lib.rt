@@ -2,6 +2,7 @@
 //
 // The checks have no `requires`. What reads a part of a record asks for the room that it touches, which a check has tested
 // for the whole record.
+mod answers;
 mod edges;
 mod entries;
 mod layout;
@@ -11,6 +12,8 @@ mod nodes;
 mod policies;
 mod rows;
 
+pub use answers::number_of;
+pub use answers::place_of;
 pub use edges::is_owned;
 pub use entries::check_list;
 pub use entries::check_sheet;
