@@ -1,7 +1,7 @@
 -- The search by halving, as the code goes: what a place at the middle tells, and the ids of nodes and entries.
 use Prim.Native.Nat.{ℕ, _+_, _≤_, _<_}
 use native.Mathlib.Omega.{arith}
-use mathlib.Core.Path.{_≡_, sym, ap, _∙_, subst}
+use mathlib.Core.Path.{_≡_, sym}
 use mathlib.Core.List.{List}
 use lib.ListN.{length}
 use Rattle.lists.specs.Rising.{Rising, Between, between-none, mid, mid-up, mid-down, mid-hit, place}

@@ -3,15 +3,14 @@
 --     filling              the loop that fills the table
 use Prim.Native.Nat.{ℕ, _+_, _-_, _≤_, _<_}
 use native.Mathlib.Omega.{arith}
-use mathlib.Core.Path.{_≡_, refl, sym, ap, _∙_}
-use mathlib.Core.Bool.{Bool, true, false, cond, not}
+use mathlib.Core.Path.{_≡_, sym, ap, _∙_}
+use mathlib.Core.Bool.{Bool, true, false, not}
 use mathlib.Core.List.{List}
 use lib.Dec.{eqb}
 use lib.ListN.{length, getD, set, replicate, length-set, length-replicate, getD-replicate}
 use mir.Syntax.{w16}
 use mir.Val.{Fits}
-use borrow.Author.Tests.{eq-eqb, ne-eqb}
-use Rattle.lists.specs.First.{every, Passed, passed-none, passed-more, every-yes, every-no}
+use Rattle.lists.specs.First.{Passed, passed-none, passed-more, every-yes, every-no}
 use Rattle.lists.specs.Index.{mark, Indexing, indexing-start, indexing-next, indexing-end}
 use Rattle.numbers.specs.BigEndian.{u16At}
 use Rattle.records.specs.Layout.{Room, nodeCount, nodeOffset}

@@ -7,7 +7,7 @@ use borrow.Author.Tests.{lt-ltb}
 use Rattle.lists.specs.First.{firstBad, every}
 use Rattle.lists.specs.Stride.{at}
 use Rattle.numbers.specs.BigEndian.{u16At, u32At}
-use Rattle.records.specs.Form.{nodeWidth, entryWidth, listLead, sheetLead}
+use Rattle.records.specs.Form.{nodeWidth, entryWidth}
 use Rattle.records.specs.Layout.{policyOffset, nodeOffset, edgeOffset}
 use Rattle.records.specs.Entries.{entryOffset, entriesRefusal, listRefusal, sheetRefusal}
 use Rattle.records.specs.Network.{manyParts, networkRefusal}

@@ -1,5 +1,4 @@
 -- A refusal is known by its numbers, and so is what a check finds: any two answers with the same numbers are the same.
-use Prim.Native.Nat.{ℕ}
 use mathlib.Core.Path.{_≡_, refl, sym, ap, _∙_}
 use mathlib.Core.Bool.{cond}
 use mathlib.Core.List.{[], _∷_}

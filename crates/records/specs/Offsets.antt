@@ -9,9 +9,9 @@ use native.Mathlib.Omega.{arith}
 use mathlib.Core.Path.{_≡_}
 use mathlib.Core.List.{List}
 use lib.ListN.{length}
-use Rattle.lists.specs.Stride.{at, at-zero, at-next, at-fits, at-base}
+use Rattle.lists.specs.Stride.{at-zero, at-next, at-fits, at-base}
 use Rattle.records.specs.Form.{Usable, version1, nodeWidth, entryWidth}
-use Rattle.records.specs.Layout.{Room, nodeCount, edgeCount, policyCount, policyOffset, nodePart, nodeOffset, edgePart, edgeOffset, total}
+use Rattle.records.specs.Layout.{Room, nodeCount, edgeCount, policyCount, policyOffset, nodePart, nodeOffset, edgePart, edgeOffset}
 use Rattle.records.specs.Entries.{EntriesRoom, entryCount, entryOffset}
 use Rattle.records.specs.Fine.{NetworkFine, EntriesFine}
 use Rattle.records.specs.declared.Form.{Form}

@@ -3,7 +3,7 @@
 --     entry-ids-rise, entry-..       the row of an entry by its id
 --     mark-..                        what the table tells of an id
 --     filled-once                    there is one filled table
-use Prim.Native.Nat.{ℕ, _+_, _-_, _≤_, _<_}
+use Prim.Native.Nat.{ℕ, _+_, _-_, _<_}
 use native.Mathlib.Omega.{arith}
 use mathlib.Core.Path.{_≡_, refl, sym, _∙_}
 use mathlib.Core.Bool.{Bool, true, false, cond}
