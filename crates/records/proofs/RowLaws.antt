@@ -17,7 +17,7 @@ use Rattle.records.specs.Layout.{Room, nodeCount, nodeOffset}
 use Rattle.records.specs.Node.{nodeId, isOwn, ownless, rowOf}
 use Rattle.records.specs.Edge.{boxed}
 use Rattle.records.specs.Rows.{rowMark, Filled}
-use Rattle.records.specs.Offsets.{node-room}
+use Rattle.records.specs.Offsets.{node-fields-room}
 use Rattle.records.specs.declared.Form.{Form}
 
 module _ (f : Form) (b : List ℕ) where
@@ -32,10 +32,10 @@ module _ (f : Form) (b : List ℕ) where
 
     module _ (r : Room f b) (l : i < nodeCount b) where
       pub row-id-room : o + 2 ≤ length b
-      row-id-room = omega (arith, node-room f b r i l)
+      row-id-room = omega (arith, node-fields-room f b r i l)
 
       pub row-kind-room : o + 2 < length b
-      row-kind-room = omega (arith, node-room f b r i l)
+      row-kind-room = omega (arith, node-fields-room f b r i l)
 
   -- what the search for an own node knows: the nodes before the i-th are none
   unfoldable pub Ownless : ℕ → Type 0

@@ -21,6 +21,7 @@ pub use layout::edge_offset;
 pub use layout::entry_offset;
 pub use layout::node_offset;
 pub use layout::node_part;
+pub use layout::node_width;
 pub use layout::policy_offset;
 pub use lookup::entry_of;
 pub use lookup::row_of;
