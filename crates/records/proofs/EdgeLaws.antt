@@ -1,16 +1,16 @@
 -- The edges of a network, as the code reads them.
 --     owned-ids             whether an own node has an id, by the table from ids to rows
 --     edge-forms            when an edge is well formed
-use Prim.Native.Nat.{ℕ, _+_, _-_, _*_, _^_, _≤_, _<_}
+use Prim.Native.Nat.{ℕ, _+_, _-_, _<_}
 use native.Mathlib.Omega.{arith}
-use mathlib.Core.Path.{_≡_, refl, sym, ap, _∙_}
-use mathlib.Core.Bool.{Bool, true, false, not, and-false}
+use mathlib.Core.Path.{_≡_, refl}
+use mathlib.Core.Bool.{Bool, true, false, not}
 use mathlib.Core.List.{List}
 use lib.Dec.{eqb, ltb}
-use lib.ListN.{length, getD}
+use lib.ListN.{getD}
 use mir.Syntax.{w16}
 use mir.Val.{Fits}
-use borrow.Author.Tests.{eq-eqb, ne-eqb, not-true, not-false}
+use borrow.Author.Tests.{not-true, not-false}
 use Rattle.numbers.specs.BigEndian.{u16At}
 use Rattle.records.specs.Layout.{nodeCount}
 use Rattle.records.specs.Node.{isOwn, rowOf}

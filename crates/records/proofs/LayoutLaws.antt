@@ -1,5 +1,5 @@
 -- Offsets as the code works them out: the products stay small.
-use Prim.Native.Nat.{ℕ, _+_, _*_, _≤_, _<_}
+use Prim.Native.Nat.{ℕ, _+_, _*_, _≤_}
 use native.Mathlib.Nat.{mul-le-mul}
 use native.Mathlib.Omega.{arith}
 use mathlib.Core.Path.{_≡_, refl}
@@ -45,9 +45,13 @@ policy-offset i = omega arith
 pub node-part : (b : List ℕ) (p r : ℕ) → p ≡ getD b 9 0 → r ≡ policyOffset p → r ≡ nodePart b
 node-part b p r e h = rw (← e) h
 
-pub node-offset : (f : Form) (b : List ℕ) (part i r : ℕ) → part ≡ nodePart b → r ≡ at part (9 + f .route + f .route) i → r ≡ nodeOffset f b i
-unfolding nodeOffset nodeWidth
-node-offset f b part i r e h = rw (← e) h
+pub node-width : (f : Form) → 9 + f .route + f .route ≡ nodeWidth f
+unfolding nodeWidth
+node-width f = refl
+
+pub node-offset : (f : Form) (b : List ℕ) (part size i r : ℕ) → part ≡ nodePart b → size ≡ nodeWidth f → r ≡ at part size i → r ≡ nodeOffset f b i
+unfolding nodeOffset
+node-offset f b part size i r e w h = rw (← e, ← w) h
 
 pub edge-offset : (f : Form) (b : List ℕ) (n part i r : ℕ) → n ≡ u16At b 5 → part ≡ nodeOffset f b n → r ≡ at part 5 i → r ≡ edgeOffset f b i
 unfolding edgeOffset

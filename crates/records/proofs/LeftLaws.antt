@@ -19,12 +19,12 @@ use Rattle.lists.specs.Rising.{Rising, least, least-start, least-next}
 use Rattle.lists.specs.Test.{and-l, and-r}
 use Rattle.lists.specs.Walk.{Walk, walk-start, walk-next, walk-bad, walk-end}
 use Rattle.numbers.specs.BigEndian.{u16At}
-use Rattle.records.specs.Layout.{Room, nodeCount, edgeCount, edgePart, edgeOffset}
+use Rattle.records.specs.Layout.{Room, nodeCount, edgeCount, edgeOffset}
 use Rattle.records.specs.Node.{nodeId, isOwn, rowOf}
 use Rattle.records.specs.Edge.{boxed, owned, edgeTo, edgeFrom, edgeKey, endsFormed, edgeFormed, edgeOk, leftBy, inputOk}
 use Rattle.records.specs.Rows.{Filled, LeftMarked, keyAfter, leftAfter}
 use Rattle.records.specs.RowLaws.{row-within, row-found, row-is, mark-row}
-use Rattle.records.specs.Offsets.{edge-first, edge-after, edge-room}
+use Rattle.records.specs.Offsets.{edge-after, edge-room}
 use Rattle.records.specs.declared.Form.{Form}
 
 module _ (f : Form) (b : List ℕ) where

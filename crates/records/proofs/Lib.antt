@@ -8,3 +8,4 @@ pub mod EntryLaws
 pub mod EntryRefusals
 pub mod NetworkRefusals
 pub mod LookupLaws
+pub mod AnswerLaws

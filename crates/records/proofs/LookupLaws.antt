@@ -1,7 +1,7 @@
 -- The search by halving, as the code goes: what a place at the middle tells, and the ids of nodes and entries.
 use Prim.Native.Nat.{ℕ, _+_, _≤_, _<_}
 use native.Mathlib.Omega.{arith}
-use mathlib.Core.Path.{_≡_, sym, ap, _∙_, subst}
+use mathlib.Core.Path.{_≡_, sym}
 use mathlib.Core.List.{List}
 use lib.ListN.{length}
 use Rattle.lists.specs.Rising.{Rising, Between, between-none, mid, mid-up, mid-down, mid-hit, place}
@@ -41,18 +41,17 @@ module _ (b : List ℕ) (base size n id lo hi : ℕ) where
         pub find-down : (found ≡ id → ⊥) → id ≤ found → Between (idAt b base size) n id lo (mid lo hi)
         find-down d q = mid-down (idAt b base size) n id lo hi found rise h l found-is d q
 
-module _ (f : Form) (b : List ℕ) (part n : ℕ) (e : part ≡ nodePart b) (c : n ≡ u16At b 5) where
-  pub rows-room : Room f b → at part (9 + f .route + f .route) n ≤ length b
-  unfolding nodeOffset nodeWidth
-  rows-room r = rw (e, c) (nodes-room f b r)
+module _ (f : Form) (b : List ℕ) (part size n : ℕ) (e : part ≡ nodePart b) (w : size ≡ nodeWidth f) (c : n ≡ u16At b 5) where
+  pub rows-room : Room f b → at part size n ≤ length b
+  unfolding nodeOffset
+  rows-room r = rw (e, w, c) (nodes-room f b r)
 
-  pub rows-rise : Rising (nodeId f b) (nodeCount b) → Rising (idAt b part (9 + f .route + f .route)) n
-  unfolding nodeWidth
-  rows-rise r = rw (e, c, node-ids f b) r
+  pub rows-rise : Rising (nodeId f b) (nodeCount b) → Rising (idAt b part size) n
+  rows-rise r = rw (e, w, c, node-ids f b) r
 
-  pub rows-found : (id r : ℕ) → r ≡ place (idAt b part (9 + f .route + f .route)) id n → r ≡ rowOf f b id
-  unfolding nodeWidth rowOf
-  rows-found id r h = rw (e, c, node-ids f b) at h
+  pub rows-found : (id r : ℕ) → r ≡ place (idAt b part size) id n → r ≡ rowOf f b id
+  unfolding rowOf
+  rows-found id r h = rw (e, w, c, node-ids f b) at h
 
 module _ (f : Form) (lead : ℕ) (b : List ℕ) (n : ℕ) (c : n ≡ u16At b 5) where
   pub entries-room : EntriesRoom f lead b → at 7 (lead + f .route) n ≤ length b

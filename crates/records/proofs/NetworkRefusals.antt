@@ -1,15 +1,16 @@
 -- Each answer of a check of a network, from the tests that the code has made by then.
---     wires, wire-marks           numbers 9 and 10
---     parts, part-rooms           numbers 6 to 8, and on
---     counts, whole-here          numbers 3 to 5, and on
---     network                     numbers 1 and 2, and on
+--     wires, marks-..                 numbers 9 and 10, and the marks before and after the edges are read
+--     wires-table                     what they leave in the table from ids to rows
+--     nodes, nodes-.., parts-..       numbers 6 to 8, and on
+--     many, counts, few-nodes         numbers 3 to 5, and on
+--     network                         numbers 1 and 2, and on
 use Prim.Native.Nat.{ℕ, _+_, _≤_, _<_}
 use native.Mathlib.Omega.{arith}
-use mathlib.Core.Path.{_≡_, refl, sym, _∙_}
+use mathlib.Core.Path.{_≡_, sym, _∙_}
 use mathlib.Core.Bool.{Bool, true, false, cond}
 use mathlib.Core.List.{List}
-use lib.Dec.{eqb, ltb}
-use lib.ListN.{length, getD, replicate, length-replicate, getD-replicate}
+use lib.Dec.{ltb}
+use lib.ListN.{length, getD, replicate, getD-replicate}
 use borrow.Author.Tests.{eq-eqb, ne-eqb, lt-ltb, le-ltb, ltb-false}
 use Rattle.lists.specs.First.{firstBad, every, first-all, first-le}
 use Rattle.lists.specs.Rising.{Rising}
@@ -23,7 +24,7 @@ use Rattle.records.specs.Rows.{Filled, LeftMarked, RowsAfter}
 use Rattle.records.specs.RowLaws.{ids-rise}
 use Rattle.records.specs.Offsets.{nodes-room, policies-room}
 use Rattle.records.specs.Network.{policyOk, manyParts, badPolicy, badNode, badEdge, badInput, networkFrom, networkRefusal}
-use Rattle.records.specs.Numbers.{Numbers, refused, fine, checkNumbers}
+use Rattle.records.specs.Numbers.{refused, fine, checkNumbers}
 use Rattle.records.specs.declared.Check.{Check}
 use Rattle.records.specs.declared.Form.{Form}
 
@@ -32,9 +33,6 @@ module _ (f : Form) (b : List ℕ) where
   pub marks-start : Room f b → LeftMarked f b 0 (replicate 1024 0)
   unfolding LeftMarked leftBy every firstBad
   marks-start r i l = let k = r .few in let u = r .usable .few in getD-replicate 1024 i 0 0 (omega arith)
-
-  pub marks-long : length (replicate {A = ℕ} 1024 0) ≡ 1024
-  marks-long = length-replicate {A = ℕ} 1024 0
 
   module _ (e bad : ℕ) (c : e ≡ u16At b 7) (p : bad ≡ firstBad (edgeOk f b) e) where
     pub wires-edge : (o : ℕ) → bad < e → o ≡ edgeOffset f b bad → refused 9 o ≡ networkFrom f b 9

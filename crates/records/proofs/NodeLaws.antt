@@ -5,7 +5,7 @@
 use Prim.Native.Nat.{ℕ, _+_, _^_, _≤_, _<_}
 use native.Mathlib.Omega.{arith}
 use mathlib.Core.Path.{_≡_, refl, sym, ap, _∙_}
-use mathlib.Core.Bool.{Bool, true, false, not, _&&_}
+use mathlib.Core.Bool.{Bool, true, false, not}
 use mathlib.Core.Logic.{_⊎_, inl, inr}
 use mathlib.Core.List.{List}
 use lib.Dec.{eqb}
@@ -18,9 +18,10 @@ use Rattle.lists.specs.Walk.{Climb, climb-start, climb-next, climb-low, climb-i
 use Rattle.numbers.specs.BigEndian.{u16At}
 use Rattle.routes.specs.Form.{zeros, routeFormed}
 use Rattle.routes.specs.declared.Demand.the-variants.{Nothing, Hold, HoldNone}
+use Rattle.records.specs.Form.{nodeWidth}
 use Rattle.records.specs.Layout.{nodePart, nodeOffset}
 use Rattle.records.specs.Node.{kindFormed, promiseFormed, demandFormed, nodeFormed, promising, demandOf, nodeId, nodeOk}
-use Rattle.records.specs.Offsets.{node-first, node-after, node-within}
+use Rattle.records.specs.Offsets.{node-first, node-after, node-within, node-fields}
 use Rattle.records.specs.declared.Form.{Form}
 
 module _ (w : ℕ) (b : List ℕ) (o : ℕ) where
@@ -146,23 +147,26 @@ module _ (f : Form) (b : List ℕ) (n : ℕ) where
         unfolding nodeOk
         node-ill y = climb-ill _ _ _ (nodeFormed (f .route) b) (λ k. refl) n i o low c l t h y
 
-        pub node-next : (id : ℕ) → id ≡ u16At b o → low ≤ id → not t ≡ false → Noding f b n (i + 1) (o + (9 + f .route + f .route)) (id + 1)
+        pub node-next : (id size : ℕ) → id ≡ u16At b o → low ≤ id → not t ≡ false → size ≡ nodeWidth f → Noding f b n (i + 1) (o + size) (id + 1)
         unfolding nodeOk nodeId
-        node-next id e m y =
+        node-next id size e m y w =
             let here = c .walk .here in
-            climb-next _ _ _ (nodeFormed (f .route) b) (λ k. refl) n i o low c l t h id (o + (9 + f .route + f .route))
+            climb-next _ _ _ (nodeFormed (f .route) b) (λ k. refl) n i o low c l t h id (o + size)
             (e ∙ ap (u16At b) here) m y (omega (arith, node-after f b i))
 
       -- the node at hand lies within the n nodes
       module _ (r : nodeOffset f b n ≤ length b) where
+        node-whole : o + nodeWidth f ≤ length b
+        node-whole = let here = c .walk .here in omega (arith, node-within f b i n l)
+
         pub node-here : o + (9 + f .route + f .route) ≤ length b
-        node-here = let here = c .walk .here in omega (arith, node-within f b i n l)
+        node-here = omega (arith, node-whole, node-fields f)
 
         pub node-id-room : o + 2 ≤ length b
         node-id-room = omega (arith, node-here)
 
-        pub node-fits : length b < 2 ^ 64 → Fits w64 (o + (9 + f .route + f .route))
-        node-fits g = omega (arith, node-here)
+        pub node-fits : (size : ℕ) → size ≡ nodeWidth f → length b < 2 ^ 64 → Fits w64 (o + size)
+        node-fits size w g = omega (arith, node-whole)
 
 pub ruleset noding = (node-start, node-end, node-low, node-ill, node-next)
 

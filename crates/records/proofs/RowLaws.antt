@@ -3,22 +3,21 @@
 --     filling              the loop that fills the table
 use Prim.Native.Nat.{ℕ, _+_, _-_, _≤_, _<_}
 use native.Mathlib.Omega.{arith}
-use mathlib.Core.Path.{_≡_, refl, sym, ap, _∙_}
-use mathlib.Core.Bool.{Bool, true, false, cond, not}
+use mathlib.Core.Path.{_≡_, sym, ap, _∙_}
+use mathlib.Core.Bool.{Bool, true, false, not}
 use mathlib.Core.List.{List}
 use lib.Dec.{eqb}
 use lib.ListN.{length, getD, set, replicate, length-set, length-replicate, getD-replicate}
 use mir.Syntax.{w16}
 use mir.Val.{Fits}
-use borrow.Author.Tests.{eq-eqb, ne-eqb}
-use Rattle.lists.specs.First.{every, Passed, passed-none, passed-more, every-yes, every-no}
+use Rattle.lists.specs.First.{Passed, passed-none, passed-more, every-yes, every-no}
 use Rattle.lists.specs.Index.{mark, Indexing, indexing-start, indexing-next, indexing-end}
 use Rattle.numbers.specs.BigEndian.{u16At}
 use Rattle.records.specs.Layout.{Room, nodeCount, nodeOffset}
 use Rattle.records.specs.Node.{nodeId, isOwn, ownless, rowOf}
 use Rattle.records.specs.Edge.{boxed}
 use Rattle.records.specs.Rows.{rowMark, Filled}
-use Rattle.records.specs.Offsets.{node-room}
+use Rattle.records.specs.Offsets.{node-fields-room}
 use Rattle.records.specs.declared.Form.{Form}
 
 module _ (f : Form) (b : List ℕ) where
@@ -33,10 +32,10 @@ module _ (f : Form) (b : List ℕ) where
 
     module _ (r : Room f b) (l : i < nodeCount b) where
       pub row-id-room : o + 2 ≤ length b
-      row-id-room = omega (arith, node-room f b r i l)
+      row-id-room = omega (arith, node-fields-room f b r i l)
 
       pub row-kind-room : o + 2 < length b
-      row-kind-room = omega (arith, node-room f b r i l)
+      row-kind-room = omega (arith, node-fields-room f b r i l)
 
   -- what the search for an own node knows: the nodes before the i-th are none
   unfoldable pub Ownless : ℕ → Type 0

@@ -1,9 +1,10 @@
 -- A refusal is known by its numbers, and so is what a check finds: any two answers with the same numbers are the same.
-use Prim.Native.Nat.{ℕ}
 use mathlib.Core.Path.{_≡_, refl, sym, ap, _∙_}
 use mathlib.Core.Bool.{cond}
 use mathlib.Core.List.{[], _∷_}
+use native.Mathlib.Omega.{arith}
 use lib.Dec.{eqb}
+use borrow.Author.Tests.{ne-eqb}
 use Rattle.lists.specs.Test.{firstOf}
 use Rattle.records.specs.Numbers.{Numbers, numbersOf, checkNumbers, fine}
 use Rattle.records.specs.declared.Check.{Check}
@@ -64,39 +65,24 @@ numbers-case (NoRoom needed) = refl
 unfoldable pub checkOf : Numbers → Check
 checkOf n = cond (eqb (n .number) 0) Fine (Refused (caseOf n))
 
+-- no refusal has number 0: it would be the last case, whose number is 20
+numbered : (r : Refusal) → numbersOf r .number ≡ 0 → ⊥
+unfolding caseOf
+numbered r z =
+    let last : caseOf (numbersOf r) ≡ NoRoom (numbersOf r .place) = rw z in
+    let e : 20 ≡ numbersOf r .number = ap (λ (x : Refusal). numbersOf x .number) (sym last ∙ numbers-case r) in
+    omega arith
+
 pub numbers-check : (c : Check) → checkOf (checkNumbers c) ≡ c
 unfolding checkOf
 numbers-check Fine = refl
-numbers-check (Refused r) = numbered r (ap Refused (numbers-case r))
-  where
-    numbered : (r : Refusal) → Refused (caseOf (numbersOf r)) ≡ Refused r
-        → cond (eqb (numbersOf r .number) 0) Fine (Refused (caseOf (numbersOf r))) ≡ Refused r
-    numbered (Short length) e = e
-    numbered Version e = e
-    numbered Counts e = e
-    numbered Length e = e
-    numbered (Behind total) e = e
-    numbered (IllPolicy offset) e = e
-    numbered (IllNode offset) e = e
-    numbered (NoOwn part) e = e
-    numbered (IllEdge offset) e = e
-    numbered (NoEdgeOut offset) e = e
-    numbered (EntriesShort length) e = e
-    numbered EntriesVersion e = e
-    numbered EntriesCount e = e
-    numbered EntriesLength e = e
-    numbered (EntriesBehind total) e = e
-    numbered (IllEntry offset) e = e
-    numbered (NoEntry id) e = e
-    numbered (NoFragment asked) e = e
-    numbered (NoteDiffers id) e = e
-    numbered (NoRoom needed) e = e
+numbers-check (Refused r) = rw (ne-eqb (numbersOf r .number) 0 (numbered r)) (ap Refused (numbers-case r))
 
 -- a contract that gives the numbers allows one answer
 pub one-check : (n : Numbers) (c d : Check) → checkNumbers c ≡ n → checkNumbers d ≡ n → c ≡ d
 one-check n c d p q = sym (numbers-check c) ∙ ap checkOf (p ∙ sym q) ∙ numbers-check d
 
--- a check that finds a refusal does not have the numbers of none
+-- a check whose numbers are those of no refusal found none
 pub check-fine : (c : Check) → checkNumbers c ≡ fine → c ≡ Fine
 unfolding checkOf
 check-fine c e = sym (numbers-check c) ∙ ap checkOf e

@@ -4,13 +4,13 @@
 --     own-node, node-own                          that an own node exists, by its row
 use Prim.Native.Nat.{ℕ, _+_, _≤_, _<_}
 use native.Mathlib.Omega.{arith}
-use mathlib.Core.Path.{_≡_, refl, ap}
+use mathlib.Core.Path.{_≡_, ap}
 use mathlib.Core.Bool.{Bool, true, false, cond, not, _||_}
 use mathlib.Core.List.{List}
 use lib.Dec.{eqb, ltb}
 use lib.ListN.{length, getD}
-use borrow.Author.Tests.{ltb-false, le-ltb, eqb-true, eq-eqb, not-true, not-false}
-use Rattle.lists.specs.First.{firstBad, first-none, first-all, first-le, every-some, some-every}
+use borrow.Author.Tests.{ltb-false, le-ltb, eqb-true, eq-eqb, not-false}
+use Rattle.lists.specs.First.{firstBad, first-none, first-all, every-some, some-every}
 use Rattle.lists.specs.Test.{cond-off, or-f-l, or-f-r}
 use Rattle.numbers.specs.BigEndian.{u32At}
 use Rattle.records.specs.Form.{version1}

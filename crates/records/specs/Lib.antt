@@ -12,3 +12,4 @@ pub mod Ids
 pub mod Fine
 pub mod Offsets
 pub mod RowLaws
+pub mod Boundaries

@@ -1,7 +1,8 @@
 -- Laws of offsets: where the parts begin, how they follow on each other, and that each lies within the record.
 --     policy-first, node-first, edge-first, entry-first     the first of each part
 --     policy-after, node-after, edge-after, entry-after     the next one
---     policy-within, node-within, edge-within               each ends within as many as there are
+--     policy-within, node-within, edge-within, ..           each ends within as many as there are
+--     node-fields                                           a node is as wide as its fields at least
 --     policies-room, nodes-room, policy-room, ..            and within the bytes
 --     usable1, fine-room, fine-entries-room                 what a fine check gives
 use Prim.Native.Nat.{ℕ, _+_, _≤_, _<_}
@@ -9,9 +10,9 @@ use native.Mathlib.Omega.{arith}
 use mathlib.Core.Path.{_≡_}
 use mathlib.Core.List.{List}
 use lib.ListN.{length}
-use Rattle.lists.specs.Stride.{at, at-zero, at-next, at-fits, at-base}
+use Rattle.lists.specs.Stride.{at-zero, at-next, at-fits, at-base}
 use Rattle.records.specs.Form.{Usable, version1, nodeWidth, entryWidth}
-use Rattle.records.specs.Layout.{Room, nodeCount, edgeCount, policyCount, policyOffset, nodePart, nodeOffset, edgePart, edgeOffset, total}
+use Rattle.records.specs.Layout.{Room, nodeCount, edgeCount, policyCount, policyOffset, nodePart, nodeOffset, edgePart, edgeOffset}
 use Rattle.records.specs.Entries.{EntriesRoom, entryCount, entryOffset}
 use Rattle.records.specs.Fine.{NetworkFine, EntriesFine}
 use Rattle.records.specs.declared.Form.{Form}
@@ -28,18 +29,23 @@ pub policy-within : (i n : ℕ) → i < n → policyOffset i + 13 ≤ policyOffs
 unfolding policyOffset
 policy-within i n l = at-fits 10 13 i n l
 
+-- a node's fields, up to its tags, are within it
+pub node-fields : (f : Form) → 9 + f .route + f .route ≤ nodeWidth f
+unfolding nodeWidth
+node-fields f = omega arith
+
 module _ (f : Form) (b : List ℕ) where
   pub node-first : nodeOffset f b 0 ≡ nodePart b
   unfolding nodeOffset
   node-first = at-zero (nodePart b) (nodeWidth f)
 
-  pub node-after : (i : ℕ) → nodeOffset f b (i + 1) ≡ nodeOffset f b i + (9 + f .route + f .route)
-  unfolding nodeOffset nodeWidth
-  node-after i = at-next (nodePart b) (9 + f .route + f .route) i
+  pub node-after : (i : ℕ) → nodeOffset f b (i + 1) ≡ nodeOffset f b i + nodeWidth f
+  unfolding nodeOffset
+  node-after i = at-next (nodePart b) (nodeWidth f) i
 
-  pub node-within : (i n : ℕ) → i < n → nodeOffset f b i + (9 + f .route + f .route) ≤ nodeOffset f b n
-  unfolding nodeOffset nodeWidth
-  node-within i n l = at-fits (nodePart b) (9 + f .route + f .route) i n l
+  pub node-within : (i n : ℕ) → i < n → nodeOffset f b i + nodeWidth f ≤ nodeOffset f b n
+  unfolding nodeOffset
+  node-within i n l = at-fits (nodePart b) (nodeWidth f) i n l
 
   pub edge-first : edgeOffset f b 0 ≡ edgePart f b
   unfolding edgeOffset
@@ -65,8 +71,11 @@ module _ (f : Form) (b : List ℕ) where
     pub policy-room : (i : ℕ) → i < policyCount b → policyOffset i + 13 ≤ length b
     policy-room i l = omega (arith, policies-room, policy-within i (policyCount b) l)
 
-    pub node-room : (i : ℕ) → i < nodeCount b → nodeOffset f b i + (9 + f .route + f .route) ≤ length b
+    pub node-room : (i : ℕ) → i < nodeCount b → nodeOffset f b i + nodeWidth f ≤ length b
     node-room i l = omega (arith, nodes-room, node-within i (nodeCount b) l)
+
+    pub node-fields-room : (i : ℕ) → i < nodeCount b → nodeOffset f b i + (9 + f .route + f .route) ≤ length b
+    node-fields-room i l = omega (arith, node-room i l, node-fields f)
 
     pub edge-room : (j : ℕ) → j < edgeCount b → edgeOffset f b j + 5 ≤ length b
     edge-room j l = let h = r .whole in omega (arith, edge-within j (edgeCount b) l)

@@ -2,12 +2,13 @@
 --     ids-rise, row-..               the row of a node by its id, where ids rise
 --     entry-ids-rise, entry-..       the row of an entry by its id
 --     mark-..                        what the table tells of an id
---     filled-once                    there is one filled table
-use Prim.Native.Nat.{ℕ, _+_, _-_, _≤_, _<_}
+--     filled-once, rows-after-once   there is one filled table, and one table after a check
+use Prim.Native.Nat.{ℕ, _+_, _-_, _<_}
 use native.Mathlib.Omega.{arith}
 use mathlib.Core.Path.{_≡_, refl, sym, _∙_}
-use mathlib.Core.Bool.{Bool, true, false, cond}
+use mathlib.Core.Bool.{Bool, true, false, cond, _||_}
 use mathlib.Core.List.{List}
+use lib.Dec.{eqb, ltb}
 use lib.ListN.{length, getD}
 use lib.Seq.{ext-getD}
 use borrow.Author.Tests.{leb-true, ltb-true, lt-ltb}
@@ -17,7 +18,9 @@ use Rattle.records.specs.Layout.{nodeCount}
 use Rattle.records.specs.Node.{nodeId, nodeOk, rowOf}
 use Rattle.records.specs.Edge.{boxed}
 use Rattle.records.specs.Entries.{entryCount, entryId, entryOk, entryOf}
-use Rattle.records.specs.Rows.{rowMark, Filled}
+use Rattle.records.specs.Rows.{rowMark, Filled, FilledOrKept, RowsAfter}
+use Rattle.records.specs.Numbers.{checkNumbers}
+use Rattle.records.specs.declared.Check.{Check}
 use Rattle.records.specs.declared.Form.{Form}
 
 module _ (f : Form) (b : List ℕ) where
@@ -86,3 +89,12 @@ module _ (f : Form) (lead : ℕ) (b : List ℕ) where
 pub filled-once : (f : Form) (b r s : List ℕ) → length r ≡ 65536 → length s ≡ 65536 → Filled f b r → Filled f b s → r ≡ s
 unfolding Filled
 filled-once f b r s p q h k = ext-getD 0 r s (p ∙ sym q) (λ i l. h i (omega arith) ∙ sym (k i (omega arith)))
+
+-- a contract that gives the table after a check allows one
+pub rows-after-once : (f : Form) (b : List ℕ) (c : Check) (before r s : List ℕ) → length r ≡ 65536 → length s ≡ 65536
+    → RowsAfter f b c before r → RowsAfter f b c before s → r ≡ s
+rows-after-once f b c before r s p q = go (eqb (checkNumbers c .number) 0 || ltb 8 (checkNumbers c .number))
+  where
+    go : (t : Bool) → FilledOrKept f b t before r → FilledOrKept f b t before s → r ≡ s
+    go true h k = filled-once f b r s p q h k
+    go false h k = h ∙ sym k

@@ -5,7 +5,7 @@ use mathlib.Core.Bool.{Bool, true, false, cond, _||_}
 use mathlib.Core.List.{List}
 use lib.Dec.{eqb, ltb}
 use lib.ListN.{getD, set}
-use Rattle.records.specs.Layout.{nodeCount}
+use Rattle.records.specs.Layout.{Room, nodeCount}
 use Rattle.records.specs.Node.{rowOf}
 use Rattle.records.specs.Edge.{edgeFrom, edgeKey, boxed, edgeOk, leftBy}
 use Rattle.records.specs.Numbers.{checkNumbers}
@@ -20,6 +20,11 @@ module _ (f : Form) (b : List ℕ) where
   -- the table is filled
   unfoldable pub Filled : List ℕ → Type 0
   Filled rows = (id : ℕ) → id < 65536 → getD rows id 0 ≡ rowMark id
+
+  -- the record may be read by the table
+  pub record Tabled (rows : List ℕ) : Type 0 where
+    pub room : Room f b
+    pub filled : Filled rows
 
   -- the second table holds 1 at the rows of nodes that one of the first k edges leaves, and 0 at the others
   unfoldable pub LeftMarked : ℕ → List ℕ → Type 0

@@ -9,7 +9,7 @@ ghost use Rattle.numbers.specs.BigEndian.{u16At};
 ghost use Rattle.records.specs.Edge.{edgeKey, owned, endsFormed, edgeFormed, edgeOk, inputOk};
 ghost use Rattle.records.specs.Layout.{Room, nodeCount, edgeCount, edgeOffset};
 ghost use Rattle.records.specs.Node.{nodeId, rowOf};
-ghost use Rattle.records.specs.Rows.{Filled, LeftMarked, keyAfter, leftAfter};
+ghost use Rattle.records.specs.Rows.{Tabled, LeftMarked, keyAfter, leftAfter};
 use crate::Form;
 use crate::layout::edge_offset;
 use crate::layout::wide16;
@@ -18,7 +18,7 @@ use numbers::u16_at;
 
 // Whether an own node has the id, by the table from ids to rows.
 pub fn is_owned(form: Form, b: &[u8], rows: &[u16; 65536], id: u16) -> bool
-    requires { ⌜ Room form (now b) × Filled form (now b) (now rows) ⌝ }
+    requires { ⌜ Tabled form (now b) (now rows) ⌝ }
     ensures { λ r. ⌜ r ≡ owned form (now (b .entry)) id ⌝ }
 {
     let row = wide16(rows[id as usize]);
@@ -30,7 +30,7 @@ pub fn is_owned(form: Form, b: &[u8], rows: &[u16; 65536], id: u16) -> bool
 
 // Whether both ends of an edge exist and differ, and the to end is own.
 fn ends_formed(form: Form, b: &[u8], rows: &[u16; 65536], to: u16, from: u16) -> bool
-    requires { ⌜ Room form (now b) × Filled form (now b) (now rows) ⌝ }
+    requires { ⌜ Tabled form (now b) (now rows) ⌝ }
     ensures { λ r. ⌜ r ≡ endsFormed form (now (b .entry)) to from ⌝ }
 {
     if !is_owned(form, b, rows, to) {
@@ -44,7 +44,7 @@ fn ends_formed(form: Form, b: &[u8], rows: &[u16; 65536], to: u16, from: u16) ->
 
 // Whether the edge at an offset is well formed.
 fn edge_formed(form: Form, b: &[u8], rows: &[u16; 65536], at: usize) -> bool
-    requires { ⌜ Room form (now b) × Filled form (now b) (now rows) × (at + 5 ≤ length (now b)) ⌝ }
+    requires { ⌜ Tabled form (now b) (now rows) × (at + 5 ≤ length (now b)) ⌝ }
     ensures { λ r. ⌜ r ≡ edgeFormed form (now (b .entry)) at ⌝ }
 {
     if !ends_formed(form, b, rows, u16_at(b, at), u16_at(b, at + 2)) {
@@ -63,7 +63,7 @@ fn edge_key(b: &[u8], at: usize) -> usize
 
 // Marks the row of the from end of the edge at an offset.
 fn mark_left(form: Form, b: &[u8], rows: &[u16; 65536], left: &mut [u8; 1024], at: usize)
-    requires { ⌜ Room form (now b) × Filled form (now b) (now rows) × (at + 5 ≤ length (now b)) × (edgeFormed form (now b) at ≡ true) ⌝ }
+    requires { ⌜ Tabled form (now b) (now rows) × (at + 5 ≤ length (now b)) × (edgeFormed form (now b) at ≡ true) ⌝ }
     ensures { λ _. ⌜ now (left .exit) ≡ set (now (left .entry)) (rowOf form (now (b .entry)) (u16At (now (b .entry)) (at + 2))) 1 ⌝ }
 {
     let row = wide16(rows[u16_at(b, at + 2) as usize]);
@@ -81,7 +81,8 @@ fn read_edge(
     at: usize,
     low: usize,
 ) -> usize
-    requires { ⌜ Room form (now b) × Filled form (now b) (now rows) × (j < edgeCount (now b)) × (at ≡ edgeOffset form (now b) j) × (low ≡ least (edgeKey form (now b)) j) ⌝ }
+    requires { ⌜ Tabled form (now b) (now rows) × (j < edgeCount (now b)) ⌝ }
+    requires { ⌜ (at ≡ edgeOffset form (now b) j) × (low ≡ least (edgeKey form (now b)) j) ⌝ }
     ensures next { λ r. ⌜ r ≡ keyAfter form (now (b .entry)) j ⌝ }
     ensures marks { λ _. ⌜ now (left .exit) ≡ leftAfter form (now (b .entry)) j (now (left .entry)) ⌝ }
 {
@@ -98,7 +99,8 @@ fn read_edge(
 
 // The first of n edges that is ill formed or does not rise, or n. Marks the rows that the edges before it leave.
 pub fn bad_edge(form: Form, b: &[u8], rows: &[u16; 65536], left: &mut [u8; 1024], n: usize) -> usize
-    requires { ⌜ Room form (now b) × Filled form (now b) (now rows) × Rising (nodeId form (now b)) (nodeCount (now b)) × (n ≡ edgeCount (now b)) × (length (now left) ≡ 1024) × LeftMarked form (now b) 0 (now left) ⌝ }
+    requires { ⌜ Tabled form (now b) (now rows) × Rising (nodeId form (now b)) (nodeCount (now b)) × (n ≡ edgeCount (now b)) ⌝ }
+    requires { ⌜ (length (now left) ≡ 1024) × LeftMarked form (now b) 0 (now left) ⌝ }
     ensures bad { λ r. ⌜ r ≡ firstBad (edgeOk form (now (b .entry))) n ⌝ }
     ensures marks { λ r. ⌜ LeftMarked form (now (b .entry)) r (now (left .exit)) ⌝ }
 {

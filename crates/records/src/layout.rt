@@ -4,7 +4,7 @@ ghost use Prim.Native.Nat.{_+_, _*_, _≤_, _<_};
 ghost use lib.ListN.{length};
 ghost use Rattle.lists.specs.Stride.{at};
 ghost use Rattle.records.specs.Entries.{entryOffset};
-ghost use Rattle.records.specs.Form.{Usable};
+ghost use Rattle.records.specs.Form.{Usable, nodeWidth};
 ghost use Rattle.records.specs.Layout.{policyOffset, nodePart, nodeOffset, edgeOffset, total};
 use crate::Form;
 use numbers::u16_at;
@@ -55,12 +55,20 @@ pub fn node_part(b: &[u8]) -> usize
     policy_offset(wide(b[9]))
 }
 
+// The bytes of a node.
+pub fn node_width(form: Form) -> usize
+    requires { ⌜ Usable form ⌝ }
+    ensures { λ r. ⌜ (r ≡ nodeWidth form) × (2 ≤ r) × (r ≤ 64) ⌝ }
+{
+    9 + form.route + form.route
+}
+
 // The offset of the i-th node; behind the last one the edges begin.
 pub fn node_offset(form: Form, b: &[u8], i: usize) -> usize
     requires { ⌜ Usable form × (10 ≤ length (now b)) × (i ≤ 65535) ⌝ }
     ensures { λ r. ⌜ (r ≡ nodeOffset form (now (b .entry)) i) × (r ≤ 4197629) ⌝ }
 {
-    stride(node_part(b), 9 + form.route + form.route, i)
+    stride(node_part(b), node_width(form), i)
 }
 
 // The offset of the i-th edge; behind the last one the record ends.

@@ -2,6 +2,7 @@
 //
 // The checks have no `requires`. What reads a part of a record asks for the room that it touches, which a check has tested
 // for the whole record.
+mod answers;
 mod edges;
 mod entries;
 mod layout;
@@ -11,6 +12,8 @@ mod nodes;
 mod policies;
 mod rows;
 
+pub use answers::number_of;
+pub use answers::place_of;
 pub use edges::is_owned;
 pub use entries::check_list;
 pub use entries::check_sheet;
@@ -18,6 +21,7 @@ pub use layout::edge_offset;
 pub use layout::entry_offset;
 pub use layout::node_offset;
 pub use layout::node_part;
+pub use layout::node_width;
 pub use layout::policy_offset;
 pub use layout::wide;
 pub use layout::wide16;

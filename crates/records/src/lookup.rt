@@ -10,6 +10,7 @@ ghost use Rattle.records.specs.Layout.{Room, nodeCount};
 ghost use Rattle.records.specs.Node.{nodeId, rowOf};
 use crate::Form;
 use crate::layout::node_part;
+use crate::layout::node_width;
 use crate::layout::stride;
 use numbers::u16_at;
 
@@ -40,13 +41,7 @@ pub fn row_of(form: Form, b: &[u8], id: u16) -> usize
     requires { ⌜ Room form (now b) × Rising (nodeId form (now b)) (nodeCount (now b)) ⌝ }
     ensures { λ r. ⌜ r ≡ rowOf form (now (b .entry)) id ⌝ }
 {
-    find(
-        b,
-        node_part(b),
-        9 + form.route + form.route,
-        u16_at(b, 5) as usize,
-        id,
-    )
+    find(b, node_part(b), node_width(form), u16_at(b, 5) as usize, id)
 }
 
 // The row of the entry for an id, or the number of entries where there is none.

@@ -11,7 +11,7 @@ ghost use Rattle.records.specs.Layout.{Room, nodeCount};
 ghost use Rattle.records.specs.Network.{manyParts, networkFrom, networkRefusal};
 ghost use Rattle.records.specs.Node.{nodeId};
 ghost use Rattle.records.specs.Numbers.{checkNumbers};
-ghost use Rattle.records.specs.Rows.{Filled, RowsAfter};
+ghost use Rattle.records.specs.Rows.{Tabled, RowsAfter};
 use crate::Check;
 use crate::Form;
 use crate::Refusal;
@@ -32,7 +32,7 @@ use numbers::u32_at;
 
 // Numbers 9 and 10.
 fn check_wires(form: Form, b: &[u8], rows: &[u16; 65536]) -> Check
-    requires { ⌜ Room form (now b) × Filled form (now b) (now rows) × Rising (nodeId form (now b)) (nodeCount (now b)) ⌝ }
+    requires { ⌜ Tabled form (now b) (now rows) × Rising (nodeId form (now b)) (nodeCount (now b)) ⌝ }
     ensures { λ r. ⌜ checkNumbers r ≡ networkFrom form (now (b .entry)) 9 ⌝ }
 {
     let mut left = [0u8; 1024];

@@ -10,6 +10,7 @@ ghost use Rattle.records.specs.Node.{kindFormed, promiseFormed, demandFo
 use crate::Form;
 use crate::layout::node_offset;
 use crate::layout::node_part;
+use crate::layout::node_width;
 use numbers::u16_at;
 use routes::Demand;
 use routes::all_zero;
@@ -77,7 +78,7 @@ pub fn bad_node(form: Form, b: &[u8], n: usize) -> usize
     requires { ⌜ Usable form × (10 ≤ length (now b)) × (nodeOffset form (now b) n ≤ length (now b)) ⌝ }
     ensures { λ r. ⌜ r ≡ firstBad (nodeOk form (now (b .entry))) n ⌝ }
 {
-    let size = 9 + form.route + form.route;
+    let size = node_width(form);
     let mut i = 0;
     let mut o = node_part(b);
     let mut least: usize = 0;
@@ -154,7 +155,7 @@ pub fn no_own(form: Form, b: &[u8], n: usize) -> bool
     requires { ⌜ Room form (now b) × (n ≡ nodeCount (now b)) ⌝ }
     ensures { λ r. ⌜ r ≡ ownless form (now (b .entry)) ⌝ }
 {
-    let mut i = 0;
+    let mut i: usize = 0;
     while i < n {
         if is_own(form, b, i) {
             return false;

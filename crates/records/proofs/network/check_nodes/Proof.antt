@@ -51,7 +51,7 @@ fill-rows-requires c κs = search needs
 
 -- src/network.rt:67:5
 check-wires-requires : tie.Need-check-wires-requires
-check-wires-requires c κs = (search needs, search needs, search nodes-rise)
+check-wires-requires c κs = (search needs, search nodes-rise)
 
 -- src/network.rt:53:1
 returns-3 : tie.Need-returns-3

@@ -1,4 +1,4 @@
-use Rattle.records.proofs.NetworkRefusals.{wires, marks-start, marks-long, marks-end}
+use Rattle.records.proofs.NetworkRefusals.{wires, marks-start, marks-end}
 use borrow.Author.Needs.{needs}
 use Rattle.records.proofs.network.check_wires.Statement.{statement}
 use Rattle.records.proofs.network.check_wires.Tie as tie
@@ -20,7 +20,7 @@ cast-edges c = search needs
 
 -- src/network.rt:39:9
 bad-edge-requires : tie.Need-bad-edge-requires
-bad-edge-requires c κs = (search needs, search needs, search needs, search needs, search marks-long, search marks-start)
+bad-edge-requires c κs = ((search needs, search needs, search needs), (search needs, search marks-start))
 
 -- src/network.rt:41:48
 edge-offset-requires : tie.Need-edge-offset-requires

@@ -7,6 +7,7 @@ use Rattle.records.proofs.nodes.bad_node.Reads as reads
 use Rattle.records.proofs.nodes.bad_node.Lts as lts
 use Rattle.numbers.proofs.u16_at.Reads as u16-at-reads
 use Rattle.records.proofs.layout.node_part.Reads as node-part-reads
+use Rattle.records.proofs.layout.node_width.Reads as node-width-reads
 use Rattle.records.proofs.nodes.node_formed.Reads as node-formed-reads
 
 abbrev Inv-loop : tie.InvT-loop
@@ -15,63 +16,59 @@ Inv-loop form b n size i₀ o₀ least₀ i o least = Noding form b n i o least
 abbrev μ-loop : tie.MeasureT-loop
 μ-loop form b n size i₀ o₀ least₀ i o least = n - i
 
--- src/nodes.rt:77:16
-add-size : tie.Need-add-size Inv-loop μ-loop
-add-size c = search needs
+-- src/nodes.rt:81:9
+node-width-requires : tie.Need-node-width-requires Inv-loop μ-loop
+node-width-requires c κs = search needs
 
--- src/nodes.rt:77:16
-add-size-2 : tie.Need-add-size-2 Inv-loop μ-loop
-add-size-2 c = search needs
-
--- src/nodes.rt:79:9
+-- src/nodes.rt:83:9
 node-part-requires : tie.Need-node-part-requires Inv-loop μ-loop
 node-part-requires c κs = search needs
 
--- src/nodes.rt:81:5
+-- src/nodes.rt:85:5
 loop-holds : tie.Need-loop-holds Inv-loop μ-loop
 loop-holds c = search noding
 
--- src/nodes.rt:82:18
+-- src/nodes.rt:86:18
 u16-at-requires : tie.Need-u16-at-requires Inv-loop μ-loop
 u16-at-requires c κs = search node-rooms
 
--- src/nodes.rt:82:18
+-- src/nodes.rt:86:18
 cast-id : tie.Need-cast-id Inv-loop μ-loop
 cast-id c = search needs
 
--- src/nodes.rt:84:13
+-- src/nodes.rt:88:13
 returns : tie.Need-returns Inv-loop μ-loop
 returns c = search noding
 
--- src/nodes.rt:86:13
+-- src/nodes.rt:90:13
 node-formed-requires : tie.Need-node-formed-requires Inv-loop μ-loop
 node-formed-requires c κs = search (needs, node-rooms)
 
--- src/nodes.rt:87:13
+-- src/nodes.rt:91:13
 returns-2 : tie.Need-returns-2 Inv-loop μ-loop
 returns-2 c = search noding
 
--- src/nodes.rt:89:17
+-- src/nodes.rt:93:17
 add-least : tie.Need-add-least Inv-loop μ-loop
 add-least c = search needs
 
--- src/nodes.rt:90:9
+-- src/nodes.rt:94:9
 add-o : tie.Need-add-o Inv-loop μ-loop
 add-o c = search node-rooms
 
--- src/nodes.rt:91:9
+-- src/nodes.rt:95:9
 add-i : tie.Need-add-i Inv-loop μ-loop
 add-i c = search needs
 
--- src/nodes.rt:81:5
+-- src/nodes.rt:85:5
 loop-less : tie.Need-loop-less Inv-loop μ-loop
 loop-less c = search needs
 
--- src/nodes.rt:81:5
+-- src/nodes.rt:85:5
 loop-again : tie.Need-loop-again Inv-loop μ-loop
 loop-again c = search noding
 
--- src/nodes.rt:73:1
+-- src/nodes.rt:77:1
 returns-3 : tie.Need-returns-3 Inv-loop μ-loop
 returns-3 c = search noding
 
@@ -81,8 +78,7 @@ bad-node-spec =
     (tie.spec
     Inv-loop
     μ-loop
-    add-size
-    add-size-2
+    node-width-requires
     node-part-requires
     loop-holds
     u16-at-requires
