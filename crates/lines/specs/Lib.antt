@@ -1,0 +1,3 @@
+-- What the programs read and print.
+pub mod Split
+pub mod Line

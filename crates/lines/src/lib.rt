@@ -1,0 +1,1 @@
+// What the programs read and print: the split of their input, and their lines.
