@@ -1,9 +1,10 @@
--- What the code's proofs cite.
---     splitting                      the ways of first_length
---     word-added, number-added       a word and a number behind what stands in the room
---     route-none, route-held         a route's words
---     ending                         the line feed, and the copy
---     passing, refusing, finding     the words of each line, one behind another
+-- What the code's proofs cite, in the order of the code.
+--     splitting                            the ways of first_length
+--     word-added                           a word behind what stands in the room
+--     numbering                            a number behind its space
+--     Adding, adding, ending               the loop over numbers, and what ends the line
+--     line-count, line-made, line-placed   a whole line, and what is placed of it
+--     found-none-.., found-held-..         a finding's line, by its route
 use mathlib.Core.Path.{_≡_, refl, sym, ap, _∙_}
 use mathlib.Core.List.{List, [], _∷_, _++_, append-assoc, append-nil, map, map-append}
 use Prim.Native.Nat.{ℕ, _+_, _-_, _*_, _^_, _≤_, _<_}
@@ -16,7 +17,8 @@ use mir.Syntax.{w64}
 use mir.Val.{Fits}
 use borrow.Author.Tests.{lt-ltb, le-ltb}
 use Rattle.lists.specs.Laid.{over, placed, placed-fits, copied-over}
-use Rattle.lists.specs.Stores.{stored-on, stored-lent, stored-start}
+use Rattle.lists.specs.Lent.{stored-lent, stored-start}
+use Rattle.lists.specs.Stores.{stored-on}
 use Rattle.numbers.specs.BigEndian.{u32At}
 use Rattle.numbers.specs.Decimal.{decimal}
 use Rattle.numbers.proofs.DecimalLaws.{decimal-short}
@@ -50,12 +52,14 @@ pub word-added : (before back word : List ℕ) (at : ℕ) → at + length word �
     → take at before ++ (back ++ drop (length before - at) (drop at before)) ≡ sets before at word
 word-added before back word at room f = stored-lent before back word at room (copied-over word _ back f)
 
-pub spaced-append : (vs ws : List (List ℕ)) → spaced (vs ++ ws) ≡ spaced vs ++ spaced ws
+-- words behind words
+spaced-append : (vs ws : List (List ℕ)) → spaced (vs ++ ws) ≡ spaced vs ++ spaced ws
 spaced-append [] ws = refl
-spaced-append (v ∷ vs) ws = ap (λ (l : List ℕ). text " " ++ l) (ap (λ (l : List ℕ). v ++ l) (spaced-append vs ws) ∙ sym (append-assoc v (spaced vs) (spaced ws)))
+spaced-append (v ∷ vs) ws =
+    ap (λ (l : List ℕ). text " " ++ l) (ap (λ (l : List ℕ). v ++ l) (spaced-append vs ws) ∙ sym (append-assoc v (spaced vs) (spaced ws)))
 
 -- a number, by a writer that was lent what is behind the space
-module _ (before half back : List ℕ) (at next count n : ℕ) (room : at + 21 ≤ length before) (q : next ≡ at + 1) (e : count ≡ length (decimal n)) where
+module _ (before : List ℕ) (at next count n : ℕ) (room : at + 21 ≤ length before) (q : next ≡ at + 1) (e : count ≡ length (decimal n)) where
   pub number-within : next + count ≤ at + 21
   number-within = let d = decimal-short n in omega arith
 
@@ -65,9 +69,9 @@ module _ (before half back : List ℕ) (at next count n : ℕ) (room : at + 21 �
   pub number-behind : next + count ≡ at + length (spaced (decimal n ∷ []))
   number-behind = let d = ap length (append-nil (decimal n)) in omega arith
 
-  pub number-added : half ≡ sets before at (text " ") → back ≡ placed (decimal n) (take (length half - next) (drop next half))
+  pub number-added : (half back : List ℕ) → half ≡ sets before at (text " ") → back ≡ placed (decimal n) (take (length half - next) (drop next half))
       → take next half ++ (back ++ drop (length half - next) (drop next half)) ≡ sets before at (spaced (decimal n ∷ []))
-  number-added p f =
+  number-added half back p f =
       let d = decimal-short n in
       let l : length half ≡ length before = ap length p ∙ length-sets before at (text " ") in
       let r : length (take (length half - next) (drop next half)) ≡ length half - next = simp (length-take, length-drop) (omega arith) in
@@ -109,7 +113,8 @@ module _ (ns before after : List ℕ) (at next i : ℕ) (w : Adding ns before af
 
       one-more : spaced (map decimal (take (i + 1) ns)) ≡ so-far ++ spaced (decimal (getD ns i 0) ∷ [])
       one-more =
-          rw (add-one, take-suc ns i 0 h, map-append decimal (take i ns) (getD ns i 0 ∷ [])) (spaced-append (map decimal (take i ns)) (decimal (getD ns i 0) ∷ []))
+          rw (add-one, take-suc ns i 0 h, map-append decimal (take i ns) (getD ns i 0 ∷ []))
+          (spaced-append (map decimal (take i ns)) (decimal (getD ns i 0) ∷ []))
 
   -- the last number is behind: what ends the line
   module _ (last : List ℕ) (h : length ns ≤ i) where

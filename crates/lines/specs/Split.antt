@@ -10,6 +10,7 @@ use Rattle.numbers.specs.BigEndian.{u32At}
 unfoldable pub firstLength : List ℕ → ℕ
 firstLength input = cond (ltb (length input) 4) (length input) (min (u32At input 0 + 4) (length input))
 
+-- the first record
 abbrev pub firstRecord : List ℕ → List ℕ
 firstRecord input = take (firstLength input) input
 

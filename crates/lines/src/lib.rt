@@ -73,7 +73,8 @@ fn make_line(first: &[u8], numbers: &[usize], last: &[u8], room: &mut [u8]) -> u
     add_rest(numbers, last, room, at)
 }
 
-// Places such a line at the start of out where it fits, and answers its length.
+// Places such a line at the start of out where it fits, and answers its length. The room is that of seven numbers of 20
+// digits, each behind a space, and of 13 bytes more.
 fn put_line(first: &[u8], numbers: &[usize], last: &[u8], out: &mut [u8]) -> usize
     requires { ⌜ (length (now first) + length (now last) ≤ 13) × (length (now numbers) ≤ 7) ⌝ }
     ensures count { λ r. ⌜ r ≡ length (made (now (first .entry)) (now (numbers .entry)) (now (last .entry))) ⌝ }

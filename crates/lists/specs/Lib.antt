@@ -10,4 +10,5 @@ pub mod Rows
 pub mod Codec
 pub mod Laid
 pub mod Stores
+pub mod Lent
 pub mod Best

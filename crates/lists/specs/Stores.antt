@@ -1,15 +1,10 @@
 -- Runs of bytes stored at an offset, one behind another: `sets` of lib.Seq, and how it goes on.
---     stored-on, stored-again     a run behind a run; one byte more of a run of equal bytes
---     stored-lent                 a run by a writer that was lent the rest of the buffer
---     stored-start                a run at the buffer's start, read back
 use mathlib.Core.Path.{_≡_, sym, ap, _∙_}
-use mathlib.Core.List.{List, [], _∷_, _++_, append-assoc}
-use Prim.Native.Nat.{ℕ, suc, _+_, _-_, _≤_}
+use mathlib.Core.List.{List, [], _∷_, _++_}
+use Prim.Native.Nat.{ℕ, suc, _+_}
 use native.Mathlib.Nat.{add-zero, add-suc, suc-add}
-use native.Mathlib.Omega.{arith}
-use lib.ListN.{length, take, drop, set, replicate, length-replicate, replicate-append-replicate}
-use lib.Seq.{sets, sets-eq, take-append-seam}
-use Rattle.lists.specs.Laid.{over, lent-back}
+use lib.ListN.{length, set, replicate, length-replicate, replicate-append-replicate}
+use lib.Seq.{sets}
 
 pub sets-append : (l : List ℕ) (i : ℕ) (xs ys : List ℕ) → sets l i (xs ++ ys) ≡ sets (sets l i xs) (i + length xs) ys
 sets-append l i [] ys = ap (λ (k : ℕ). sets l k ys) (sym (add-zero i))
@@ -29,13 +24,3 @@ stored-again out half at i v p =
     ∙ ap (λ (k : ℕ). set (sets out at (replicate i v)) (at + k) v) (sym (length-replicate i v))
     ∙ sym (sets-append out at (replicate i v) (v ∷ []))
     ∙ ap (sets out at) (replicate-append-replicate i 1 v)
-
--- a run by a writer that was lent the rest of the buffer from an offset on
-pub stored-lent : (before back xs : List ℕ) (at : ℕ) → at + length xs ≤ length before → back ≡ over xs (take (length before - at) (drop at before))
-    → take at before ++ (back ++ drop (length before - at) (drop at before)) ≡ sets before at xs
-stored-lent before back xs at room e =
-    rw e (lent-back before xs at room ∙ sym (append-assoc (take at before) xs _) ∙ sym (sets-eq xs before at room))
-
--- a run that was stored at the start
-pub stored-start : (before after xs : List ℕ) (next : ℕ) → after ≡ sets before 0 xs → next ≡ length xs → next ≤ length before → take next after ≡ xs
-stored-start before after xs next e n room = rw (n, e, sets-eq xs before 0 (omega arith)) (take-append-seam xs _)
