@@ -1,5 +1,6 @@
 -- What a writer laid down in a lent buffer.
 --     over, placed          bytes in the place of a buffer's first, the rest as it was; the same where they fit
+--     copied-over           what a copy to a buffer's start leaves
 --     Laid                  what a writer knows between two parts
 --     laid-start, laid-put, laid-lend, laid-done     its start, one part more, a part by a writer that is lent the rest, its end
 use mathlib.Core.Path.{_≡_, refl, _∙_, sym, ap}
@@ -12,7 +13,7 @@ use native.Mathlib.Numerals.{add-one}
 use lib.Dec.{leb}
 use borrow.Author.Tests.{le-leb, lt-leb}
 use lib.ListN.{getD, length, take, drop, set, length-append, length-take, length-drop, drop-of-length-le}
-use lib.Seq.{length-take-le, drop-cons, set-at, append-snoc, take-suc, take-all, take-append-seam, drop-drop, drop-append-add}
+use lib.Seq.{length-take-le, drop-cons, set-at, append-snoc, take-suc, take-all, take-length, take-append-seam, drop-drop, drop-append-add}
 
 -- w in the place of the first bytes of xs, the bytes behind as they were
 unfoldable pub over : List ℕ → List ℕ → List ℕ
@@ -30,6 +31,11 @@ placed-fits w xs out h e = rw (le-leb (length w) (length xs) h) e
 pub placed-short : (w xs out : List ℕ) → length xs < length w → out ≡ xs → out ≡ placed w xs
 unfolding placed
 placed-short w xs out h e = rw (lt-leb (length w) (length xs) h) e
+
+-- a copy of all of s to the start of xs
+pub copied-over : (s xs out : List ℕ) → out ≡ take (length s) s ++ drop (length s) xs → out ≡ over s xs
+unfolding over
+copied-over s xs out e = e ∙ ap (λ (l : List ℕ). l ++ drop (length s) xs) (take-length s)
 
 pub over-none : (xs : List ℕ) → over [] xs ≡ xs
 unfolding over
@@ -81,7 +87,7 @@ unfolding over
 laid-start out₀ all = record { written = []; is = refl; there = refl; left = refl; long = refl; count = zero-add (length all) }
 
 -- the whole, once a part that was lent from `at` on has come back with w over its start
-lent-back : (xs w : List ℕ) (at : ℕ) → at + length w ≤ length xs
+pub lent-back : (xs w : List ℕ) (at : ℕ) → at + length w ≤ length xs
     → take at xs ++ (over w (take (length xs - at) (drop at xs)) ++ drop (length xs - at) (drop at xs)) ≡ take at xs ++ (w ++ drop (at + length w) xs)
 unfolding over
 lent-back xs w at h =

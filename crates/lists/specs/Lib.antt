@@ -13,4 +13,5 @@ pub mod Table
 pub mod Codec
 pub mod Laid
 pub mod Stores
+pub mod Lent
 pub mod Best

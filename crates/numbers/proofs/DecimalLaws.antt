@@ -11,7 +11,7 @@ use lib.Dec.{leb}
 use lib.ListN.{length, length-append}
 use borrow.Author.Tests.{le-leb, lt-leb}
 use Rattle.io.specs.Digits.{digits, glyph, Fewest}
-use Rattle.lists.specs.First.{first-here, first-none}
+use Rattle.lists.specs.First.{first-here, first-none, first-le}
 use Rattle.lists.specs.Test.{le-or-lt}
 use Rattle.numbers.specs.Decimal.{places, decimal}
 
@@ -22,6 +22,11 @@ length-digits b (suc k) n = length-append (digits b k (n / b)) (glyph (n % b) �
 pub length-decimal : (n : ℕ) → length (decimal n) ≡ places n
 unfolding decimal
 length-decimal n = length-digits 10 (places n) n
+
+-- no number is shown with more than 20 digits
+pub decimal-short : (n : ℕ) → length (decimal n) ≤ 20
+unfolding places
+decimal-short n = let h = first-le (λ k. leb (10 ^ (k + 1)) n) 19 in rw (length-decimal n) (omega arith)
 
 power : (i j : ℕ) → i ≤ j → 10 ^ i ≤ 10 ^ j
 power i j h = pow-le-pow-right (zero-lt-suc 9) h

@@ -1,7 +1,8 @@
 // Numbers as a record holds them (big-endian) and as a line of text does (decimal).
 //
 // The readers and writers of a record's numbers ask for the room that they touch: their callers have tested the whole
-// record before, and a second test at each number would only cost time. `put_decimal` has no `requires`.
+// record before, and a second test at each number would only cost time. `place` and `put_decimal`
+// have no `requires`.
 ghost use mathlib.Core.Path.{_≡_};
 ghost use mathlib.Core.List.{[], _∷_};
 ghost use Prim.Native.Nat.{_+_, _≤_, _<_};
@@ -59,6 +60,16 @@ pub fn put_u32(out: &mut [u8], at: usize, v: u32)
     put_u16(out, at + 2, (v % 65536) as u16);
 }
 
+// Puts a text at the start of out. Where out is shorter it is left as it was.
+pub fn place(text: &[u8], out: &mut [u8])
+    ensures { λ _. ⌜ now (out .exit) ≡ placed (now (text .entry)) (now (out .entry)) ⌝ }
+{
+    if out.len() < text.len() {
+        return;
+    }
+    bytes::copy(text, out);
+}
+
 // Puts n's decimal digits at the start of out and answers how many there are. Where out is shorter it is left as it was,
 // and the answer is the same.
 pub fn put_decimal(n: u64, out: &mut [u8]) -> usize
@@ -67,9 +78,6 @@ pub fn put_decimal(n: u64, out: &mut [u8]) -> usize
 {
     let mut text = [0u8; 20];
     let count = io::decimal(n, &mut text);
-    if out.len() < count {
-        return count;
-    }
-    bytes::copy(&text[0..count], out);
+    place(&text[0..count], out);
     count
 }

@@ -1,5 +1,5 @@
--- The kit's decimal gives the fewest digits, which are the definition's; a copy lays them where they fit, and a short buffer is left alone.
-use Rattle.numbers.proofs.Laws.{digits-count, digits-short, digits-placed}
+-- The kit's decimal gives the fewest digits, which are the definition's (digits-count), and they are placed (digits-placed).
+use Rattle.numbers.proofs.Laws.{digits-count, digits-placed}
 use borrow.Author.Needs.{needs}
 use Rattle.numbers.proofs.put_decimal.Statement.{statement}
 use Rattle.numbers.proofs.put_decimal.Tie as tie
@@ -7,36 +7,32 @@ use Rattle.numbers.proofs.put_decimal.Tie as tie
 decimal-requires : tie.Need-decimal-requires
 decimal-requires c κs = search needs
 
-returns : tie.Need-returns
-returns c = (search (needs, digits-count), search (needs, digits-short))
+sub-place : tie.Need-sub-place
+sub-place c = search needs
 
-sub-copy : tie.Need-sub-copy
-sub-copy c = search needs
+part-place-start : tie.Need-part-place-start
+part-place-start c = search needs
 
-part-copy-start : tie.Need-part-copy-start
-part-copy-start c = search needs
+part-place-end : tie.Need-part-place-end
+part-place-end c = search needs
 
-part-copy-end : tie.Need-part-copy-end
-part-copy-end c = search needs
-
-copy-requires : tie.Need-copy-requires
-copy-requires c κs = search needs
+place-requires : tie.Need-place-requires
+place-requires c κs = search needs
 
 same-length : tie.Need-same-length
 same-length c = search needs
 
-returns-2 : tie.Need-returns-2
-returns-2 c = (search (needs, digits-count), search (needs, digits-placed))
+returns : tie.Need-returns
+returns c = (search (needs, digits-count), search (needs, digits-placed))
 
 pub put-decimal-spec : {M : Type 1} → statement M
 put-decimal-spec =
     tie.close
     (tie.spec
     decimal-requires
-    returns
-    sub-copy
-    part-copy-start
-    part-copy-end
-    copy-requires
+    sub-place
+    part-place-start
+    part-place-end
+    place-requires
     same-length
-    returns-2)
+    returns)

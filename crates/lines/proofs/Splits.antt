@@ -1,0 +1,42 @@
+-- What the split of an input gives: never more than the input, and of a record with bytes behind it that record.
+use mathlib.Core.Path.{_≡_, ap, _∙_}
+use mathlib.Core.Bool.{Bool, true, false, cond}
+use mathlib.Core.List.{List, _++_}
+use Prim.Native.Nat.{ℕ, _+_, _≤_, _<_, min}
+use native.Mathlib.Nat.{min-le-right, min-eq-left}
+use native.Mathlib.Omega.{arith}
+use lib.Dec.{ltb}
+use lib.ListN.{length, getD, take, drop, length-append, List·getD-append}
+use lib.Seq.{take-append-seam, drop-append-seam}
+use borrow.Author.Tests.{le-ltb}
+use Rattle.numbers.specs.BigEndian.{u16At, u32At}
+use Rattle.lines.specs.Split.{firstLength, firstRecord, restOf}
+
+pub first-within : (input : List ℕ) → firstLength input ≤ length input
+unfolding firstLength
+first-within input = go (ltb (length input) 4)
+  where
+    go : (t : Bool) → cond t (length input) (min (u32At input 0 + 4) (length input)) ≤ length input
+    go true = omega arith
+    go false = min-le-right (u32At input 0 + 4) (length input)
+
+-- a record that is as long as its length field says
+module _ (r s : List ℕ) (long : 4 ≤ length r) (e : u32At r 0 + 4 ≡ length r) where
+  field : u32At (r ++ s) 0 ≡ u32At r 0
+  unfolding u32At u16At
+  field = rw (at 0 (omega arith), at 1 (omega arith), at 2 (omega arith), at 3 (omega arith))
+    where
+      at : (k : ℕ) → k < 4 → getD (r ++ s) k 0 ≡ getD r k 0
+      at k h = List·getD-append r s 0 k (omega arith)
+
+  first-is : firstLength (r ++ s) ≡ length r
+  unfolding firstLength
+  first-is =
+      let l : length (r ++ s) ≡ length r + length s = length-append r s in
+      rw (le-ltb (length (r ++ s)) 4 (omega arith), field, e) (min-eq-left (omega arith))
+
+  pub split-record : firstRecord (r ++ s) ≡ r
+  split-record = ap (λ (k : ℕ). take k (r ++ s)) first-is ∙ take-append-seam r s
+
+  pub split-rest : restOf (r ++ s) ≡ s
+  split-rest = ap (λ (k : ℕ). drop k (r ++ s)) first-is ∙ drop-append-seam r s

@@ -1,0 +1,39 @@
+-- The lines that the programs print (document 01, 'The two programs'): words separated by one space, ended by a line feed.
+use Prim.Native.Nat.{ℕ}
+use Prim.Native.Char.{code}
+use Prim.Native.String.{String, [] as no-more, _∷_ as _then_}
+use mathlib.Core.List.{List, [], _∷_, _++_}
+use Rattle.numbers.specs.Decimal.{decimal}
+use Rattle.routes.specs.declared.Route.{Route}
+use Rattle.routes.specs.declared.Route.the-variants.{None, Held}
+
+-- a text's characters by their numbers, which are its bytes as every character here is ASCII
+abbrev pub text : String → List ℕ
+text no-more = []
+text (c then s) = code c ∷ text s
+
+-- words, each behind a space
+abbrev pub spaced : List (List ℕ) → List ℕ
+spaced [] = []
+spaced (w ∷ ws) = text " " ++ (w ++ spaced ws)
+
+-- a line: its first word, the words behind it, a line feed
+unfoldable pub line : List ℕ → List (List ℕ) → List ℕ
+line first ws = first ++ (spaced ws ++ text "\n")
+
+-- a route: `none`, or preference, cost, origin, tags
+unfoldable pub routeWords : Route → List (List ℕ)
+routeWords None = text "none" ∷ []
+routeWords (Held f) = decimal (f .preference) ∷ decimal (f .cost) ∷ decimal (f .origin) ∷ decimal (f .tags) ∷ []
+
+-- `pass JUDGED`
+unfoldable pub passLine : ℕ → List ℕ
+passLine judged = line (text "pass") (decimal judged ∷ [])
+
+-- `refused NUMBER PLACE`
+unfoldable pub refusedLine : ℕ → ℕ → List ℕ
+refusedLine number place = line (text "refused") (decimal number ∷ decimal place ∷ [])
+
+-- `found NUMBER NODE JUDGED` and the route
+unfoldable pub foundLine : ℕ → ℕ → ℕ → Route → List ℕ
+foundLine number node judged route = line (text "found") (decimal number ∷ decimal node ∷ decimal judged ∷ routeWords route)
