@@ -7,8 +7,14 @@ ghost use Rattle.reading.specs.Parts.{demandAt};
 ghost use Rattle.judging.specs.Answers.{findingOf, unmetOf};
 ghost use Rattle.judging.specs.Offer.{faultOf};
 use crate::Fault;
-use records::{Form, demand_at, node_offset, promising_at};
-use routes::{Route, is_met, route_at, same};
+use records::Form;
+use records::demand_at;
+use records::node_offset;
+use records::promising_at;
+use routes::Route;
+use routes::is_met;
+use routes::route_at;
+use routes::same;
 
 // Whether the route that the box at an offset holds leaves its demand unmet.
 fn unmet(width: usize, network: &[u8], at: usize, held: Route) -> Fault

@@ -6,9 +6,16 @@ ghost use Rattle.records.specs.Rows.{Filled};
 ghost use Rattle.judging.specs.Answers.{answerOf};
 ghost use Rattle.judging.specs.Judging.{judgeAt, judgeRecords};
 use crate::Verdict;
-use crate::search::{place_entries, search};
+use crate::search::place_entries;
+use crate::search::search;
 use numbers::u16_at;
-use records::{Check, Form, Refusal, check_list, check_network_rows, node_id, wide16};
+use records::Check;
+use records::Form;
+use records::Refusal;
+use records::check_list;
+use records::check_network_rows;
+use records::node_id;
+use records::wide16;
 
 // Judges a list against a network, both of them not refused: 17 before the search.
 fn judge_sound(form: Form, network: &[u8], list: &[u8], rows: &[u16; 65536]) -> Verdict

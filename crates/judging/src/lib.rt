@@ -5,7 +5,6 @@ mod search;
 mod senders;
 
 pub use entry::judge;
-
 use records::Refusal;
 use routes::Route;
 

@@ -12,12 +12,22 @@ ghost use Rattle.judging.specs.Answers.{answerOf};
 ghost use Rattle.judging.specs.Judging.{verdictAt};
 ghost use Rattle.judging.specs.Ready.{Prepared, Ready, enteredAt, PlacedTo, withEntry};
 ghost use Rattle.judging.specs.Walk.{leadsUpTo, withWire};
-use crate::{Fault, Finding, Verdict};
+use crate::Fault;
+use crate::Finding;
+use crate::Verdict;
 use crate::at_box::fault_at;
-use crate::senders::{held_route, node_route, offer};
+use crate::senders::held_route;
+use crate::senders::node_route;
+use crate::senders::offer;
 use numbers::u16_at;
-use records::{Form, edge_offset, entry_of, is_own, node_id, wide16};
-use routes::{Route, better};
+use records::Form;
+use records::edge_offset;
+use records::entry_of;
+use records::is_own;
+use records::node_id;
+use records::wide16;
+use routes::Route;
+use routes::better;
 
 // Stores the row of the entry of the node in a row in places, where it is an own one with an entry. Answers whether it is
 // no own one, or has an entry.
@@ -68,7 +78,16 @@ fn leads_up_to(form: Form, network: &[u8], j: usize, node: u16) -> bool
 }
 
 // The better of a route and what the j-th wire gives, where the wire leads to node; else the route.
-fn with_wire(form: Form, network: &[u8], list: &[u8], rows: &[u16; 65536], places: &[u16; 1024], j: usize, node: u16, due: Route) -> Route
+fn with_wire(
+    form: Form,
+    network: &[u8],
+    list: &[u8],
+    rows: &[u16; 65536],
+    places: &[u16; 1024],
+    j: usize,
+    node: u16,
+    due: Route,
+) -> Route
     requires { ⌜ Ready form (now network) (now list) (now rows) (now places) × (j < edgeCount (now network)) ⌝ }
     ensures { λ r. ⌜ r ≡ withWire form (now (network .entry)) (now (list .entry)) j node due ⌝ }
 {
@@ -79,7 +98,13 @@ fn with_wire(form: Form, network: &[u8], list: &[u8], rows: &[u16; 65536], place
 }
 
 // The first fault by rising id, or a pass. Wires stand by their to end, so that each is looked at once.
-pub fn search(form: Form, network: &[u8], list: &[u8], rows: &[u16; 65536], places: &[u16; 1024]) -> Verdict
+pub fn search(
+    form: Form,
+    network: &[u8],
+    list: &[u8],
+    rows: &[u16; 65536],
+    places: &[u16; 1024],
+) -> Verdict
     requires { ⌜ Prepared form (now network) (now list) (now rows) (now places) ⌝ }
     ensures { λ r. ⌜ answerOf r ≡ verdictAt form (now (network .entry)) (now (list .entry)) ⌝ }
 {

@@ -17,8 +17,18 @@ ghost use Rattle.judging.specs.Judging.{highest};
 ghost use Rattle.judging.specs.Offer.{offerAt};
 ghost use Rattle.judging.specs.Ready.{Listed, Ready};
 use numbers::u16_at;
-use records::{Form, edge_offset, entry_offset, is_own, node_offset, policy_offset, wide, wide16};
-use routes::{Route, carry, policy_at, route_at};
+use records::Form;
+use records::edge_offset;
+use records::entry_offset;
+use records::is_own;
+use records::node_offset;
+use records::policy_offset;
+use records::wide;
+use records::wide16;
+use routes::Route;
+use routes::carry;
+use routes::policy_at;
+use routes::route_at;
 
 // The route of the node in a row: an own box's initial one, or the one that is assumed of an input.
 pub fn node_route(form: Form, network: &[u8], row: usize) -> Route
@@ -39,7 +49,13 @@ fn entry_route(form: Form, list: &[u8], k: usize) -> Route
 }
 
 // The listed route of the own box in a row.
-pub fn held_route(form: Form, network: &[u8], list: &[u8], places: &[u16; 1024], row: usize) -> Route
+pub fn held_route(
+    form: Form,
+    network: &[u8],
+    list: &[u8],
+    places: &[u16; 1024],
+    row: usize,
+) -> Route
     requires { ⌜ Listed form (now network) (now list) (now places) × (row < nodeCount (now network)) × (isOwn form (now network) row ≡ true) ⌝ }
     ensures { λ r. ⌜ r ≡ held (house highest) (readList form (now (list .entry))) (nodeId form (now (network .entry)) row) ⌝ }
 {
@@ -47,7 +63,14 @@ pub fn held_route(form: Form, network: &[u8], list: &[u8], places: &[u16; 1024],
 }
 
 // The route of the box with an id: the listed one of an own box, the assumed one of an input.
-fn sender_route(form: Form, network: &[u8], list: &[u8], rows: &[u16; 65536], places: &[u16; 1024], id: u16) -> Route
+fn sender_route(
+    form: Form,
+    network: &[u8],
+    list: &[u8],
+    rows: &[u16; 65536],
+    places: &[u16; 1024],
+    id: u16,
+) -> Route
     requires { ⌜ Ready form (now network) (now list) (now rows) (now places) × (boxed form (now network) id ≡ true) ⌝ }
     ensures { λ r. ⌜ r ≡ mapping (house highest) (readNetwork form (now (network .entry))) (readList form (now (list .entry))) id ⌝ }
 {
@@ -59,7 +82,14 @@ fn sender_route(form: Form, network: &[u8], list: &[u8], rows: &[u16; 65536], pl
 }
 
 // What the j-th wire gives the box that it leads to.
-pub fn offer(form: Form, network: &[u8], list: &[u8], rows: &[u16; 65536], places: &[u16; 1024], j: usize) -> Route
+pub fn offer(
+    form: Form,
+    network: &[u8],
+    list: &[u8],
+    rows: &[u16; 65536],
+    places: &[u16; 1024],
+    j: usize,
+) -> Route
     requires { ⌜ Ready form (now network) (now list) (now rows) (now places) × (j < edgeCount (now network)) ⌝ }
     ensures { λ r. ⌜ r ≡ offerAt form (now (network .entry)) (now (list .entry)) j ⌝ }
 {
