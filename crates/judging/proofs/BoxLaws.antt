@@ -19,7 +19,7 @@ use Rattle.routes.specs.declared.Route.{Route}
 use Rattle.networks.specs.Judge.{Finding}
 use Rattle.records.specs.Layout.{Room, nodeCount, nodeOffset}
 use Rattle.records.specs.Node.{promising, demandOf}
-use Rattle.records.specs.Offsets.{node-room}
+use Rattle.records.specs.Offsets.{node-fields-room}
 use Rattle.records.specs.declared.Form.{Form}
 use Rattle.reading.specs.Parts.{promiseAt, demandAt}
 use Rattle.judging.specs.Answers.{unmetOf}
@@ -55,19 +55,19 @@ module _ (f : Form) (b : List ℕ) (row : ℕ) (held due : Route) where
   module _ (o : ℕ) (at : o ≡ nodeOffset f b row) where
     module _ (r : Room f b) (l : row < nodeCount b) where
       pub box-room : o + (9 + f .route + f .route) ≤ length b
-      box-room = omega (arith, node-room f b r row l)
+      box-room = omega (arith, node-fields-room f b r row l)
 
       pub promise-wide : 9 ≤ f .route
       promise-wide = r .usable .wide
 
       pub promise-room : o + 4 + f .route + f .route ≤ length b
-      promise-room = omega (arith, node-room f b r row l)
+      promise-room = omega (arith, node-fields-room f b r row l)
 
       pub promise-fits : length b < 2 ^ 64 → Fits w64 (o + 4 + f .route)
-      promise-fits g = omega (arith, node-room f b r row l)
+      promise-fits g = omega (arith, node-fields-room f b r row l)
 
       pub promise-base-fits : length b < 2 ^ 64 → Fits w64 (o + 4)
-      promise-base-fits g = omega (arith, node-room f b r row l)
+      promise-base-fits g = omega (arith, node-fields-room f b r row l)
 
     module _ (t : Bool) (e : t ≡ same held due) (y : not t ≡ false) (p : Bool) (q : p ≡ promising (f .route) b o) where
       no-promise : not p ≡ true → eqb (getD b (o + 3 + f .route) 0) 0 ≡ true

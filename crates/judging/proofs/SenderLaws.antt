@@ -25,7 +25,7 @@ use Rattle.records.specs.Fine.{NetworkFine, EntriesFine}
 use Rattle.records.specs.Form.{Usable, listLead}
 use Rattle.records.specs.Layout.{Room, nodeCount, edgeCount, policyCount, nodeOffset, policyOffset, edgeOffset}
 use Rattle.records.specs.Node.{nodeId, rowOf, isOwn}
-use Rattle.records.specs.Offsets.{node-room, edge-room, policy-room, entry-within, fine-room}
+use Rattle.records.specs.Offsets.{node-fields-room, edge-room, policy-room, entry-within, fine-room}
 use Rattle.records.specs.Rows.{Filled, rowMark}
 use Rattle.records.specs.declared.Form.{Form}
 use Rattle.reading.specs.Whole.{readNetwork, readList}
@@ -42,7 +42,7 @@ module _ (f : Form) (b : List ℕ) (row o : ℕ) (e : o ≡ nodeOffset f b row) 
   node-route-wide r = r .usable .wide
 
   pub node-route-room : Room f b → row < nodeCount b → o + 3 + f .route ≤ length b
-  node-route-room r l = omega (arith, node-room f b r row l)
+  node-route-room r l = omega (arith, node-fields-room f b r row l)
 
   pub node-route-is : (r : Route) → r ≡ routeAt (f .route) b (o + 3) → r ≡ routeAt (f .route) b (nodeOffset f b row + 3)
   node-route-is r h = h ∙ ap (λ (k : ℕ). routeAt (f .route) b (k + 3)) e
