@@ -93,56 +93,55 @@ module _ (f : Form) (b : List ℕ) where
       unfolding edgeKey edgeTo edgeFrom
       key-is = rw (← e) k
 
-      module _ (low-key : key < low) where
-        under : edgeOk f b j ≡ false
-        unfolding edgeOk
-        under = rw (lt-leb (least (edgeKey f b) j) (edgeKey f b j) (omega (arith, key-is)))
-
-        pub low-next : 0 ≡ keyAfter f b j
-        unfolding keyAfter
-        low-next = rw under
-
-        pub low-marks : (left : List ℕ) → left ≡ leftAfter f b j left
-        unfolding leftAfter
-        low-marks left = rw under
+      pub read-low : key < low → edgeOk f b j ≡ false
+      unfolding edgeOk
+      read-low l = rw (lt-leb (least (edgeKey f b) j) (edgeKey f b j) (omega (arith, key-is)))
 
       module _ (t : Bool) (q : t ≡ edgeFormed f b at) where
-        module _ (y : not t ≡ true) where
-          ill : edgeOk f b j ≡ false
-          unfolding edgeOk
-          ill = let z : edgeFormed f b (edgeOffset f b j) ≡ false = rw (← e) (sym q ∙ not-true t y) in simp (z, and-false)
-
-          pub ill-next : 0 ≡ keyAfter f b j
-          unfolding keyAfter
-          ill-next = rw ill
-
-          pub ill-marks : (left : List ℕ) → left ≡ leftAfter f b j left
-          unfolding leftAfter
-          ill-marks left = rw ill
+        pub read-ill : not t ≡ true → edgeOk f b j ≡ false
+        unfolding edgeOk
+        read-ill y = let z : edgeFormed f b (edgeOffset f b j) ≡ false = rw (← e) (sym q ∙ not-true t y) in simp (z, and-false)
 
         module _ (y : not t ≡ false) where
-          pub edge-is-formed : edgeFormed f b at ≡ true
-          edge-is-formed = sym q ∙ not-false t y
+          pub read-formed : edgeFormed f b at ≡ true
+          read-formed = sym q ∙ not-false t y
 
           module _ (m : low ≤ key) where
             good : edgeOk f b j ≡ true
             unfolding edgeOk
             good =
-                let z : edgeFormed f b (edgeOffset f b j) ≡ true = rw (← e) edge-is-formed in
+                let z : edgeFormed f b (edgeOffset f b j) ≡ true = rw (← e) read-formed in
                 rw (le-leb (least (edgeKey f b) j) (edgeKey f b j) (omega (arith, key-is))) z
 
             pub good-next : key + 1 ≡ keyAfter f b j
             unfolding keyAfter
             good-next = rw good (ap (λ (x : ℕ). x + 1) key-is)
 
-            pub good-marks : (left marked : List ℕ) → marked ≡ set left (rowOf f b (u16At b (at + 2))) 1
-                → marked ≡ leftAfter f b j left
+            pub good-marks : (left marked : List ℕ) → marked ≡ set left (rowOf f b (u16At b (at + 2))) 1 → marked ≡ leftAfter f b j left
             unfolding leftAfter
             good-marks left marked d = rw (good, from-is) d
 
+  -- an edge that is not in order changes nothing
+  module _ (j : ℕ) (e : edgeOk f b j ≡ false) where
+    pub bad-next : 0 ≡ keyAfter f b j
+    unfolding keyAfter
+    bad-next = rw e
+
+    pub bad-marks : (left : List ℕ) → left ≡ leftAfter f b j left
+    unfolding leftAfter
+    bad-marks left = rw e
+
+  pub key-none : (j key : ℕ) → key ≡ keyAfter f b j → key ≡ 0 → edgeOk f b j ≡ false
+  unfolding keyAfter
+  key-none j key k z = go (edgeOk f b j) k
+    where
+      go : (t : Bool) → key ≡ cond t (edgeKey f b j + 1) 0 → t ≡ false
+      go true q = absurd (omega arith)
+      go false q = refl
+
 pub ruleset marking = (marking-some, marking-row, marking-done)
 
-pub ruleset edge-read = (edge-here, low-next, low-marks, ill-next, ill-marks, edge-is-formed, good-next, good-marks)
+pub ruleset edge-read = (edge-here, read-low, read-ill, read-formed, good-next, good-marks, bad-next, bad-marks)
 
 -- what the loop over the edges knows
 pub record Edging (f : Form) (b : List ℕ) (n j o low : ℕ) (left : List ℕ) : Type 0 where
@@ -162,24 +161,15 @@ module _ (f : Form) (b : List ℕ) (n : ℕ) where
     pub edging-marks : LeftMarked f b j left
     edging-marks = c .marks
 
+    pub edging-bad : j < n → edgeOk f b j ≡ false → j ≡ firstBad (edgeOk f b) n
+    edging-bad l e = walk-bad _ _ n j o (c .walk) l e
+
+    -- and nothing was marked
+    pub edging-bad-marks : (left′ : List ℕ) → left′ ≡ leftAfter f b j left → edgeOk f b j ≡ false → LeftMarked f b j left′
+    unfolding leftAfter
+    edging-bad-marks left′ d e = rw (d, e) (c .marks)
+
     module _ (l : j < n) (key : ℕ) (k : key ≡ keyAfter f b j) where
-      pub edging-bad : key ≡ 0 → j ≡ firstBad (edgeOk f b) n
-      unfolding keyAfter
-      edging-bad z = walk-bad _ _ n j o (c .walk) l (go (edgeOk f b j) k)
-        where
-          go : (t : Bool) → key ≡ cond t (edgeKey f b j + 1) 0 → t ≡ false
-          go true q = absurd (omega arith)
-          go false q = refl
-
-      -- and nothing was marked
-      pub edging-bad-marks : (left′ : List ℕ) → key ≡ 0 → left′ ≡ leftAfter f b j left → LeftMarked f b j left′
-      unfolding keyAfter leftAfter
-      edging-bad-marks left′ z d = go (edgeOk f b j) k d
-        where
-          go : (t : Bool) → key ≡ cond t (edgeKey f b j + 1) 0 → left′ ≡ cond t (set left (rowOf f b (edgeFrom f b j)) 1) left → LeftMarked f b j left′
-          go true q r = absurd (omega arith)
-          go false q r = rw r (c .marks)
-
       pub edging-next : (left′ : List ℕ) → (key ≡ 0 → ⊥) → left′ ≡ leftAfter f b j left
           → Room f b → Rising (nodeId f b) (nodeCount b) → Edging f b n (j + 1) (o + 5) key left′
       unfolding keyAfter leftAfter

@@ -1,10 +1,11 @@
 -- What "none of the numbers applies" comes to, fact by fact, and back.
 --     NetworkFine, network-fine, fine-network     for numbers 1 to 10
 --     EntriesFine, entries-fine, fine-entries     for numbers 11 to 16
+--     checked-network, checked-entries            the same from what a check has found
 --     own-node, node-own                          that an own node exists, by its row
 use Prim.Native.Nat.{ℕ, _+_, _≤_, _<_}
 use native.Mathlib.Omega.{arith}
-use mathlib.Core.Path.{_≡_, ap}
+use mathlib.Core.Path.{_≡_, sym, ap, _∙_}
 use mathlib.Core.Bool.{Bool, true, false, cond, not, _||_}
 use mathlib.Core.List.{List}
 use lib.Dec.{eqb, ltb}
@@ -17,9 +18,11 @@ use Rattle.records.specs.Form.{version1}
 use Rattle.records.specs.Layout.{nodeCount, edgeCount, policyCount, nodePart, policyOffset, nodeOffset, edgeOffset, total}
 use Rattle.records.specs.Node.{nodeOk, isOwn, ownless}
 use Rattle.records.specs.Edge.{edgeOk, inputOk}
-use Rattle.records.specs.Numbers.{Numbers, refused, fine}
+use Rattle.records.specs.Numbers.{Numbers, refused, fine, checkNumbers}
 use Rattle.records.specs.Network.{policyOk, manyParts, badPolicy, badNode, badEdge, badInput, networkRefusal}
 use Rattle.records.specs.Entries.{entryCount, entryOffset, entryOk, badEntry, entriesRefusal}
+use Rattle.records.specs.declared.Check.{Check}
+use Rattle.records.specs.declared.Check.the-variants.{Fine}
 use Rattle.records.specs.declared.Form.{Form}
 
 pub record NetworkFine (f : Form) (b : List ℕ) : Type 0 where
@@ -145,6 +148,13 @@ fine-entries lead b h =
       le-ltb end (length b) (omega arith),
       bad-none (entryOk version1 lead b) (entryCount b) (h .entries),
     )
+
+-- the same from what a check has found
+pub checked-network : (b : List ℕ) (c : Check) → c ≡ Fine → checkNumbers c ≡ networkRefusal b → NetworkFine version1 b
+checked-network b c e h = network-fine b (sym h ∙ ap checkNumbers e)
+
+pub checked-entries : (lead : ℕ) (b : List ℕ) (c : Check) → c ≡ Fine → checkNumbers c ≡ entriesRefusal lead b → EntriesFine version1 lead b
+checked-entries lead b c e h = entries-fine lead b (sym h ∙ ap checkNumbers e)
 
 -- an own node exists
 module _ (f : Form) (b : List ℕ) where

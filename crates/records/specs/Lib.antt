@@ -10,6 +10,7 @@ pub mod Entries
 pub mod Cases
 pub mod Ids
 pub mod Fine
+pub mod Facts
 pub mod Offsets
 pub mod RowLaws
 pub mod Boundaries

@@ -2,6 +2,7 @@
 --     ids-rise, row-..               the row of a node by its id, where ids rise
 --     entry-ids-rise, entry-..       the row of an entry by its id
 --     mark-..                        what the table tells of an id
+--     rows-fine                      the table after a check that found nothing
 --     filled-once, rows-after-once   there is one filled table, and one table after a check
 use Prim.Native.Nat.{ℕ, _+_, _-_, _<_}
 use native.Mathlib.Omega.{arith}
@@ -21,6 +22,7 @@ use Rattle.records.specs.Entries.{entryCount, entryId, entryOk, entryOf}
 use Rattle.records.specs.Rows.{rowMark, Filled, FilledOrKept, RowsAfter}
 use Rattle.records.specs.Numbers.{checkNumbers}
 use Rattle.records.specs.declared.Check.{Check}
+use Rattle.records.specs.declared.Check.the-variants.{Fine}
 use Rattle.records.specs.declared.Form.{Form}
 
 module _ (f : Form) (b : List ℕ) where
@@ -89,6 +91,10 @@ module _ (f : Form) (lead : ℕ) (b : List ℕ) where
 pub filled-once : (f : Form) (b r s : List ℕ) → length r ≡ 65536 → length s ≡ 65536 → Filled f b r → Filled f b s → r ≡ s
 unfolding Filled
 filled-once f b r s p q h k = ext-getD 0 r s (p ∙ sym q) (λ i l. h i (omega arith) ∙ sym (k i (omega arith)))
+
+-- a check that found nothing left the table filled
+pub rows-fine : (f : Form) (b : List ℕ) (c : Check) (before after : List ℕ) → c ≡ Fine → RowsAfter f b c before after → Filled f b after
+rows-fine f b c before after e h = rw e at h
 
 -- a contract that gives the table after a check allows one
 pub rows-after-once : (f : Form) (b : List ℕ) (c : Check) (before r s : List ℕ) → length r ≡ 65536 → length s ≡ 65536

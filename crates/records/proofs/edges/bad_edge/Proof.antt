@@ -1,3 +1,4 @@
+use Rattle.records.proofs.LeftLaws.{key-none}
 use Rattle.records.proofs.LeftLaws.{edging-bad, edging-bad-marks}
 use Rattle.records.proofs.LeftLaws.{Edging, edging, edging-start, edging-fits}
 use Prim.Native.Nat.{_-_}
@@ -29,7 +30,7 @@ read-edge-requires c κs = search (needs, edging)
 
 -- src/edges.rt:103:13
 returns : tie.Need-returns Inv-loop μ-loop
-returns c = (edging-bad _ _ _ _ _ _ _ (c .before .before .before .before .loop .inv) (search needs) _ (c .before .read-edge .ensures .0) (c .if1 .taken), edging-bad-marks _ _ _ _ _ _ _ (c .before .before .before .before .loop .inv) (search needs) _ (c .before .read-edge .ensures .0) _ (c .if1 .taken) (c .before .read-edge .ensures .1))
+returns c = let e = key-none _ _ _ _ (c .before .read-edge .ensures .0) (c .if1 .taken) in (search edging-bad, search edging-bad-marks)
 
 -- src/edges.rt:105:9
 add-o : tie.Need-add-o Inv-loop μ-loop
