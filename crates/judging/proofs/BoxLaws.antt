@@ -1,6 +1,6 @@
 -- The first fault of one box, one law for each way through the tests.
-use mathlib.Core.Path.{_≡_, refl, sym, ap, _∙_}
-use mathlib.Core.Bool.{Bool, true, false, cond, not}
+use mathlib.Core.Path.{_≡_, sym, ap, _∙_}
+use mathlib.Core.Bool.{Bool, true, false, not}
 use mathlib.Core.List.{List}
 use mathlib.Core.Option.{Option, none, some}
 use Prim.Native.Nat.{ℕ, _+_, _^_, _≤_, _<_}
@@ -10,7 +10,6 @@ use lib.ListN.{length, getD}
 use mir.Syntax.{w64}
 use mir.Val.{Fits}
 use borrow.Author.Tests.{not-true, not-false}
-use Rattle.numbers.specs.BigEndian.{u16At}
 use Rattle.routes.specs.Demand.{meets}
 use Rattle.routes.specs.Form.{routeAt}
 use Rattle.routes.specs.Order.{same}

@@ -1,27 +1,25 @@
 -- The entry point: refusals in their order, and then the search.
 use mathlib.Core.Path.{_≡_, refl, sym, ap, _∙_}
 use mathlib.Core.Bool.{Bool, true, false, cond, not, _||_}
-use mathlib.Core.List.{List, filterMap}
+use mathlib.Core.List.{List}
 use mathlib.Core.Option.{Option, none, some, Option·map}
 use Prim.Native.Nat.{ℕ, _+_, _≤_, _<_}
 use native.Mathlib.Omega.{arith}
 use lib.Dec.{eqb, ltb}
 use lib.ListN.{length, getD, replicate, length-replicate}
-use borrow.Author.Tests.{lt-ltb, le-ltb, ltb-true, not-false}
+use borrow.Author.Tests.{lt-ltb, le-ltb, ltb-true}
 use Rattle.lists.specs.Codec.{Bytes}
-use Rattle.lists.specs.First.{firstBad, first-all, first-le}
+use Rattle.lists.specs.First.{firstBad, first-all}
 use Rattle.lists.specs.Rising.{Rising}
 use Rattle.lists.specs.Rows.{rows}
-use Rattle.lists.specs.Sorted.{find}
 use Rattle.lists.specs.Stride.{at}
 use Rattle.lists.specs.Table.{find-rows}
 use Rattle.numbers.specs.BigEndian.{u16At}
 use Rattle.routes.specs.declared.Demand.{Demand}
 use Rattle.routes.specs.declared.Route.{Route}
-use Rattle.networks.specs.Answer.{Answer, given, refused, refuse, isSome, lowest, unentered}
-use Rattle.networks.specs.House.{house}
+use Rattle.networks.specs.Answer.{Answer, refused, isSome, unentered}
 use Rattle.networks.specs.Judge.{Verdict, judge}
-use Rattle.networks.specs.Network.{Own, Input, Box, own, input, asOwn, ownBoxes}
+use Rattle.networks.specs.Network.{Own, Input, own, input}
 use Rattle.networks.specs.Sheets.{ListEntry, listed}
 use Rattle.records.specs.Entries.{entryCount, entryId, entryOf, entryOffset, EntriesRoom, listRefusal}
 use Rattle.records.specs.Fine.{NetworkFine, EntriesFine, network-fine, entries-fine}
@@ -29,7 +27,7 @@ use Rattle.records.specs.Form.{Usable, version1, listLead, nodeWidth, entryWidt
 use Rattle.records.specs.Layout.{Room, nodeCount, nodePart, nodeOffset}
 use Rattle.records.specs.Network.{networkRefusal}
 use Rattle.records.specs.Node.{nodeId, isOwn}
-use Rattle.records.specs.Numbers.{Numbers, numbersOf, checkNumbers, fine}
+use Rattle.records.specs.Numbers.{numbersOf, checkNumbers, fine}
 use Rattle.records.specs.Offsets.{usable1, fine-room, fine-entries-room}
 use Rattle.records.specs.RowLaws.{entry-ids-rise}
 use Rattle.records.specs.Rows.{Filled, RowsAfter}
@@ -41,9 +39,9 @@ use Rattle.records.specs.declared.Refusal.the-variants.{Short, Version, Counts,
 use Rattle.reading.specs.Parts.{boxAt, listEntryAt}
 use Rattle.reading.specs.Whole.{readNetwork, readList}
 use Rattle.reading.proofs.Lowest.{passed, lowest-rows}
-use Rattle.reading.proofs.Said.{box-id-at, box-own-at}
-use Rattle.judging.specs.Judging.{highest, judgeAt, judgeRecords, verdictAt}
-use Rattle.judging.specs.Ready.{Placed, Listed, Ready, Prepared, enteredAt, PlacedTo}
+use Rattle.reading.proofs.Said.{box-id-at}
+use Rattle.judging.specs.Judging.{judgeAt, judgeRecords, verdictAt}
+use Rattle.judging.specs.Ready.{Placed, Prepared, enteredAt, PlacedTo}
 
 -- no refusal has number 0
 refusal-number : (r : Refusal) → eqb (numbersOf r .number) 0 ≡ false

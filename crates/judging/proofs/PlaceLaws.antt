@@ -1,6 +1,6 @@
 -- The table of entries, as the loop over the nodes fills it.
 use mathlib.Core.Path.{_≡_, refl, sym, ap, _∙_}
-use mathlib.Core.Bool.{Bool, true, false, cond, not, _&&_, _||_}
+use mathlib.Core.Bool.{Bool, true, false, cond, not, _&&_}
 use mathlib.Core.List.{List}
 use mathlib.Core.Logic.{⊎-elim}
 use Prim.Native.Nat.{ℕ, _+_, _≤_, _<_, zero-le}
@@ -14,15 +14,11 @@ use mir.Syntax.{w16}
 use mir.Val.{Fits}
 use borrow.Author.Tests.{lt-ltb, le-ltb, not-true, not-false}
 use Rattle.lists.specs.First.{firstBad, Passed, passed-none, passed-more, passed-stop, passed-end}
-use Rattle.lists.specs.Rising.{Rising}
 use Rattle.numbers.specs.BigEndian.{u16At}
-use Rattle.records.specs.Entries.{entryCount, entryId, entryOf, EntriesRoom}
-use Rattle.records.specs.Fine.{NetworkFine, EntriesFine}
-use Rattle.records.specs.Form.{Usable, listLead}
+use Rattle.records.specs.Entries.{entryCount, entryOf, EntriesRoom}
+use Rattle.records.specs.Form.{listLead}
 use Rattle.records.specs.Layout.{Room, nodeCount}
 use Rattle.records.specs.Node.{nodeId, isOwn}
-use Rattle.records.specs.Offsets.{fine-room, fine-entries-room}
-use Rattle.records.specs.RowLaws.{entry-ids-rise}
 use Rattle.records.specs.declared.Form.{Form}
 use Rattle.judging.specs.Ready.{enteredAt, PlacedTo, withEntry}
 

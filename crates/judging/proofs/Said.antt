@@ -2,42 +2,36 @@
 -- makes of it.
 --     listed-at, mapping-at      a box's route, by its row
 --     policy-there, trans-at     a wire's policy, and what the wire gives
-use mathlib.Core.Path.{_≡_, refl, sym, ap, ap₂, _∙_}
-use mathlib.Core.Bool.{Bool, true, false, cond}
-use mathlib.Core.List.{List, [], _∷_}
-use mathlib.Core.Option.{Option, none, some, Option·map, Option·getD}
+use mathlib.Core.Path.{_≡_, sym, ap, _∙_}
+use mathlib.Core.Bool.{true, false}
+use mathlib.Core.List.{List}
+use mathlib.Core.Option.{Option, some, Option·map, Option·getD}
 use Prim.Native.Nat.{ℕ, zero, suc, _+_, _<_}
 use native.Mathlib.Omega.{arith}
-use lib.Dec.{eqb, ltb}
 use lib.ListN.{getD, getElem?}
-use borrow.Author.Tests.{lt-ltb, ltb-true}
-use Rattle.lists.specs.Rising.{place, place-ext}
+use borrow.Author.Tests.{lt-ltb}
 use Rattle.lists.specs.Rows.{rows}
-use Rattle.lists.specs.Sorted.{find}
 use Rattle.lists.specs.Stride.{at, at-zero, at-shift}
-use Rattle.lists.specs.Table.{keys, rowAt, find-rows}
-use Rattle.lists.specs.Test.{cond-ap}
-use Rattle.numbers.specs.BigEndian.{u16At}
+use Rattle.lists.specs.Table.{find-rows}
 use Rattle.routes.specs.Carry.{carried}
 use Rattle.routes.specs.Form.{routeAt, policyAt}
 use Rattle.routes.specs.declared.Demand.{Demand}
-use Rattle.routes.specs.declared.Policy.{Policy}
 use Rattle.routes.specs.declared.Route.{Route}
 use Rattle.routes.specs.declared.Route.the-variants.{None}
 use Rattle.networks.specs.House.{house}
 use Rattle.networks.specs.Judge.{held}
-use Rattle.networks.specs.Network.{Box, own, input, Wire, boxId, box}
-use Rattle.networks.specs.Sheets.{ListEntry, listed, listEntry}
-use Rattle.networks.specs.Solution.{routeOf, neighbour, mapping, trans}
+use Rattle.networks.specs.Network.{Box, box}
+use Rattle.networks.specs.Sheets.{ListEntry, listed}
+use Rattle.networks.specs.Solution.{routeOf, mapping, trans}
 use Rattle.records.specs.Entries.{entryCount, entryOffset, entryId, entryOf}
-use Rattle.records.specs.Form.{nodeWidth, entryWidth, listLead}
-use Rattle.records.specs.Layout.{nodeCount, policyCount, policyOffset, nodePart, nodeOffset, edgePart, edgeOffset}
+use Rattle.records.specs.Form.{entryWidth, listLead}
+use Rattle.records.specs.Layout.{policyCount, policyOffset, nodeOffset, edgePart, edgeOffset}
 use Rattle.records.specs.Node.{nodeId, rowOf, isOwn}
-use Rattle.records.specs.Edge.{boxed, edgeFrom, edgePolicy}
+use Rattle.records.specs.Edge.{boxed, edgePolicy}
 use Rattle.records.specs.declared.Form.{Form}
-use Rattle.reading.specs.Parts.{boxAt, wireAt, listEntryAt, promiseAt, demandAt}
+use Rattle.reading.specs.Parts.{boxAt, wireAt, listEntryAt}
 use Rattle.reading.specs.Whole.{HouseNetwork, HouseList, readNetwork, readList}
-use Rattle.reading.proofs.Said.{read-find, box-own-at, box-id-at}
+use Rattle.reading.proofs.Said.{read-find}
 use Rattle.judging.specs.Judging.{highest}
 
 -- a row of a table by its place

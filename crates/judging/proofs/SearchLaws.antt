@@ -4,20 +4,20 @@
 --     Due                      what the wires from j on make of a route is the due route
 --     Left                     the verdict from here is the verdict from the start
 use mathlib.Core.Path.{_≡_, refl, sym, ap, ap₂, _∙_, subst}
-use mathlib.Core.Bool.{Bool, true, false, cond, not, _&&_}
+use mathlib.Core.Bool.{Bool, true, false, not, _&&_}
 use mathlib.Core.List.{List, [], _∷_, map, filterMap}
 use mathlib.Core.Logic.{_⊎_, inl, inr}
 use mathlib.Core.Option.{Option, none, some}
-use Prim.Native.Nat.{ℕ, zero, suc, _+_, _*_, _-_, _^_, _≤_, _<_, zero-le}
+use Prim.Native.Nat.{ℕ, zero, suc, _+_, _-_, _≤_, _<_, zero-le}
 use native.Mathlib.Nat.{sub-zero}
 use native.Mathlib.Numerals.{add-one}
 use native.Mathlib.Omega.{arith}
 use lib.Dec.{eqb, leb, ltb}
-use lib.ListN.{length, getD}
+use lib.ListN.{length}
 use borrow.Author.Count.{falls}
 use mir.Syntax.{w64}
 use mir.Val.{Fits}
-use borrow.Author.Tests.{eq-eqb, ne-eqb, eqb-true, eqb-false, lt-ltb, le-leb, leb-false, ltb-false, ltb-true, leb-true, not-true, not-false}
+use borrow.Author.Tests.{eq-eqb, ne-eqb, eqb-true, eqb-false, lt-ltb, leb-false, ltb-true, leb-true, not-true, not-false}
 use Rattle.lists.specs.Codec.{Bytes}
 use Rattle.lists.specs.Filter.{filter}
 use Rattle.lists.specs.Rising.{least, least-next}
@@ -29,11 +29,11 @@ use Rattle.numbers.specs.BigEndian.{u16At}
 use Rattle.routes.specs.Form.{routeAt}
 use Rattle.routes.specs.declared.Demand.{Demand}
 use Rattle.routes.specs.declared.Route.{Route}
-use Rattle.networks.specs.Answer.{Answer, given}
+use Rattle.networks.specs.Answer.{given}
 use Rattle.networks.specs.House.{house}
-use Rattle.networks.specs.Judge.{Finding, Verdict, pass, found, held, firstFinding, fault, stop, verdictFrom}
-use Rattle.networks.specs.Network.{Own, Box, own, input, Wire, asOwn, ownBoxes, wiresInto}
-use Rattle.networks.specs.Solution.{bestOf, offers, due, mapping}
+use Rattle.networks.specs.Judge.{Finding, pass, found, held, firstFinding, fault, stop, verdictFrom}
+use Rattle.networks.specs.Network.{Own, Box, Wire, asOwn}
+use Rattle.networks.specs.Solution.{bestOf, due}
 use Rattle.records.specs.Edge.{edgeTo, edgeFrom, edgeKey}
 use Rattle.records.specs.Form.{nodeWidth}
 use Rattle.records.specs.Layout.{Room, nodeCount, edgeCount, nodePart, nodeOffset, edgePart, edgeOffset}
@@ -42,7 +42,7 @@ use Rattle.records.specs.Offsets.{fine-room}
 use Rattle.records.specs.declared.Form.{Form}
 use Rattle.reading.specs.Parts.{boxAt, wireAt, promiseAt, demandAt}
 use Rattle.reading.specs.Whole.{HouseNetwork, HouseList, readNetwork, readList}
-use Rattle.reading.proofs.Said.{Edge, edge-parts}
+use Rattle.reading.proofs.Said.{edge-parts}
 use Rattle.judging.specs.Judging.{highest, verdictAt}
 use Rattle.judging.specs.Offer.{givenBy, offerAt, faultOf}
 use Rattle.judging.specs.Ready.{Listed, Ready, Prepared}

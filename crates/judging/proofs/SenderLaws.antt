@@ -1,11 +1,10 @@
 -- The readers of boxes and wires, as the code goes: the room that they touch, and what they answer.
-use mathlib.Core.Path.{_≡_, refl, sym, ap, ap₂, _∙_}
-use mathlib.Core.Bool.{Bool, true, false, cond}
+use mathlib.Core.Path.{_≡_, sym, ap, ap₂, _∙_}
+use mathlib.Core.Bool.{Bool, true, false}
 use mathlib.Core.List.{List}
-use mathlib.Core.Option.{Option, Option·getD, some}
+use mathlib.Core.Option.{Option, Option·getD}
 use Prim.Native.Nat.{ℕ, _+_, _-_, _^_, _≤_, _<_}
 use native.Mathlib.Omega.{arith}
-use lib.Dec.{ltb}
 use lib.ListN.{length, getD}
 use mir.Syntax.{w64}
 use mir.Val.{Fits}
@@ -21,9 +20,9 @@ use Rattle.networks.specs.Judge.{held}
 use Rattle.networks.specs.Solution.{mapping}
 use Rattle.records.specs.Edge.{boxed, edgeFrom, edgePolicy}
 use Rattle.records.specs.Entries.{entryCount, entryOffset, entryOf}
-use Rattle.records.specs.Fine.{NetworkFine, EntriesFine}
+use Rattle.records.specs.Fine.{EntriesFine}
 use Rattle.records.specs.Form.{Usable, listLead}
-use Rattle.records.specs.Layout.{Room, nodeCount, edgeCount, policyCount, nodeOffset, policyOffset, edgeOffset}
+use Rattle.records.specs.Layout.{Room, nodeCount, edgeCount, nodeOffset, policyOffset, edgeOffset}
 use Rattle.records.specs.Node.{nodeId, rowOf, isOwn}
 use Rattle.records.specs.Offsets.{node-fields-room, edge-room, policy-room, entry-within, fine-room}
 use Rattle.records.specs.Rows.{Filled, rowMark}
@@ -33,7 +32,7 @@ use Rattle.reading.specs.Parts.{wireAt}
 use Rattle.reading.proofs.Said.{Edge, edge-parts}
 use Rattle.judging.specs.Judging.{highest}
 use Rattle.judging.specs.Offer.{offerAt}
-use Rattle.judging.specs.Ready.{Placed, Listed, Ready}
+use Rattle.judging.specs.Ready.{Listed, Ready}
 use Rattle.judging.proofs.Said.{listed-at, mapping-own, mapping-input, trans-at}
 
 -- a node's route

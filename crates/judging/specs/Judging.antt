@@ -1,19 +1,15 @@
 -- Judging two records (document 01, 'Judging'): the network's refusals, the list's, and then the judge's answer on what they say.
-use Prim.Native.Nat.{ℕ, _+_}
-use mathlib.Core.Bool.{Bool, cond}
-use mathlib.Core.List.{List, []}
+use Prim.Native.Nat.{ℕ}
+use mathlib.Core.Bool.{cond}
+use mathlib.Core.List.{List}
 use lib.Dec.{eqb}
-use lib.ListN.{take, drop}
 use Rattle.routes.specs.declared.Route.{Route}
 use Rattle.networks.specs.Answer.{Answer, given, refused}
 use Rattle.networks.specs.House.{house}
 use Rattle.networks.specs.Judge.{Verdict, verdictFrom, judge}
 use Rattle.networks.specs.Network.{ownBoxes}
-use Rattle.records.specs.Entries.{listRefusal, entryOffset, entryOf}
-use Rattle.records.specs.Form.{version1, listLead}
-use Rattle.records.specs.Layout.{nodeOffset}
-use Rattle.records.specs.Node.{rowOf, isOwn}
-use Rattle.records.specs.Edge.{boxed}
+use Rattle.records.specs.Entries.{listRefusal}
+use Rattle.records.specs.Form.{version1}
 use Rattle.records.specs.Network.{networkRefusal}
 use Rattle.records.specs.Numbers.{Numbers}
 use Rattle.reading.specs.Whole.{readNetwork, readList}

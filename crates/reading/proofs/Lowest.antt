@@ -1,8 +1,8 @@
 -- The lowest own box that meets a test, by its row: the first row that is an own box's and meets it.
-use mathlib.Core.Path.{_≡_, refl, sym, ap, ap₂, _∙_}
+use mathlib.Core.Path.{_≡_, refl, sym, ap, _∙_}
 use mathlib.Core.Bool.{Bool, true, false, cond, not, false≢true}
-use mathlib.Core.List.{List, [], _∷_, filterMap}
-use mathlib.Core.Option.{Option, none, some}
+use mathlib.Core.List.{_∷_, filterMap}
+use mathlib.Core.Option.{none, some}
 use Prim.Native.Nat.{ℕ, zero, suc, _+_, _<_}
 use native.Mathlib.Omega.{arith}
 use lib.Dec.{ltb}

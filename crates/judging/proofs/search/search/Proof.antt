@@ -1,3 +1,5 @@
+-- Outer loop: the verdict from here is the verdict from the start (Searching). Inner loop: what the wires that are left make of
+-- the route is the due route (Wiring). Each way out is one law of SearchLaws.
 use native.Mathlib.Omega.{arith}
 use mathlib.Core.Path.{ap, sym, _∙_}
 use Rattle.judging.specs.Answers.{findingOf}
@@ -7,17 +9,6 @@ use Rattle.judging.proofs.SearchLaws.{Searching, Wiring, searching, sea
 use borrow.Author.Needs.{needs}
 use Rattle.judging.proofs.search.search.Statement.{statement}
 use Rattle.judging.proofs.search.search.Tie as tie
-use Rattle.judging.proofs.search.search.Reads as reads
-use Rattle.judging.proofs.search.search.Lts as lts
-use Rattle.judging.proofs.at_box.fault_at.Reads as fault-at-reads
-use Rattle.judging.proofs.search.leads_up_to.Reads as leads-up-to-reads
-use Rattle.judging.proofs.search.with_wire.Reads as with-wire-reads
-use Rattle.judging.proofs.senders.held_route.Reads as held-route-reads
-use Rattle.judging.proofs.senders.node_route.Reads as node-route-reads
-use Rattle.numbers.proofs.u16_at.Reads as u16-at-reads
-use Rattle.records.proofs.wide16.Reads as wide16-reads
-use Rattle.records.proofs.is_own.Reads as is-own-reads
-use Rattle.records.proofs.node_id.Reads as node-id-reads
 
 abbrev Inv-loop : tie.InvT-loop
 Inv-loop form network list rows places n i j₀ count row node due₀ j due = Wiring form network list node due₀ due j
@@ -31,114 +22,87 @@ Inv-nodes form network list rows places n i₀ j₀ count₀ i j count = Searchi
 abbrev μ-nodes : tie.MeasureT-nodes
 μ-nodes form network list rows places n i₀ j₀ count₀ i j count = n - i
 
--- src/search.rt:86:20
 u16-at-requires : tie.Need-u16-at-requires Inv-loop μ-loop Inv-nodes μ-nodes
 u16-at-requires c κs = search (needs, searching)
 
--- src/search.rt:86:9
 wide16-requires : tie.Need-wide16-requires Inv-loop μ-loop Inv-nodes μ-nodes
 wide16-requires c κs = search (needs, searching)
 
--- src/search.rt:90:9
 nodes-holds : tie.Need-nodes-holds Inv-loop μ-loop Inv-nodes μ-nodes
 nodes-holds c = search (needs, searching)
 
--- src/search.rt:95:9
 add-i : tie.Need-add-i Inv-loop μ-loop Inv-nodes μ-nodes
 add-i c = search (needs, searching)
 
--- src/search.rt:96:13
 is-own-requires : tie.Need-is-own-requires Inv-loop μ-loop Inv-nodes μ-nodes
 is-own-requires c κs = search (needs, searching)
 
--- src/search.rt:90:9
 nodes-less : tie.Need-nodes-less Inv-loop μ-loop Inv-nodes μ-nodes
 nodes-less c = search (needs, searching)
 
--- src/search.rt:90:9
 nodes-again : tie.Need-nodes-again Inv-loop μ-loop Inv-nodes μ-nodes
 nodes-again c = search (needs, searching)
 
--- src/search.rt:99:9
 add-count : tie.Need-add-count Inv-loop μ-loop Inv-nodes μ-nodes
 add-count c = search (needs, searching)
 
--- src/search.rt:100:13
 node-id-requires : tie.Need-node-id-requires Inv-loop μ-loop Inv-nodes μ-nodes
 node-id-requires c κs = search (needs, searching)
 
--- src/search.rt:101:13
 node-route-requires : tie.Need-node-route-requires Inv-loop μ-loop Inv-nodes μ-nodes
 node-route-requires c κs = search (needs, searching)
 
--- src/search.rt:102:9
 loop-holds : tie.Need-loop-holds Inv-loop μ-loop Inv-nodes μ-nodes
 loop-holds c = search (needs, searching)
 
--- src/search.rt:102:15
 leads-up-to-requires : tie.Need-leads-up-to-requires Inv-loop μ-loop Inv-nodes μ-nodes
 leads-up-to-requires c κs = search (needs, searching)
 
--- src/search.rt:103:13
 with-wire-requires : tie.Need-with-wire-requires Inv-loop μ-loop Inv-nodes μ-nodes
 with-wire-requires c κs = (search-ready _ _ _ _ _ (c .before .before .before .before .before .before .before .before .before .before .before .before .before .pre), wiring-there _ _ _ _ _ (c .before .before .before .before .before .before .before .before .before .before .before .before .before .pre) _ _ _ _ (c .before .before .loop .inv) _ (c .before .leads-up-to .ensures) (c .if3 .taken))
 
--- src/search.rt:104:13
 add-j : tie.Need-add-j Inv-loop μ-loop Inv-nodes μ-nodes
 add-j c = record { fits = omega (arith, wiring-there _ _ _ _ _ (c .before .before .before .before .before .before .before .before .before .before .before .before .before .before .pre) _ _ _ _ (c .before .before .before .loop .inv) _ (c .before .before .leads-up-to .ensures) (c .before .if3 .taken), search-few _ _ _ _ _ (c .before .before .before .before .before .before .before .before .before .before .before .before .before .before .pre)) }
 
--- src/search.rt:102:9
 loop-less : tie.Need-loop-less Inv-loop μ-loop Inv-nodes μ-nodes
 loop-less c = wiring-less _ _ _ _ _ (c .before .before .before .before .before .before .before .before .before .before .before .before .before .before .pre) _ _ _ _ (c .before .before .before .loop .inv) _ (c .before .before .leads-up-to .ensures) (c .before .if3 .taken)
 
--- src/search.rt:102:9
 loop-again : tie.Need-loop-again Inv-loop μ-loop Inv-nodes μ-nodes
 loop-again c = wiring-next _ _ _ _ _ (c .before .before .before .before .before .before .before .before .before .before .before .before .before .before .pre) _ _ _ _ (c .before .before .before .loop .inv) _ (c .before .before .leads-up-to .ensures) (c .before .if3 .taken) _ (c .with-wire .ensures)
 
--- src/search.rt:106:13
 held-route-requires : tie.Need-held-route-requires Inv-loop μ-loop Inv-nodes μ-nodes
 held-route-requires c κs = (search-listed _ _ _ _ _ (c .before .before .before .before .before .before .before .before .before .before .before .before .before .pre), search-row _ _ _ _ _ (c .before .before .before .before .before .before .before .before .before .before .before .before .before .pre) _ _ _ _ (c .before .before .before .before .before .before .before .before .nodes .inv) (c .before .before .before .before .before .before .before .if1 .left), search-own _ _ _ _ _ (c .before .before .before .before .before .before .before .before .before .before .before .before .before .pre) _ _ _ _ (c .before .before .before .before .before .before .before .before .nodes .inv) (c .before .before .before .before .before .before .before .if1 .left) _ (c .before .before .before .before .before .before .is-own .ensures) (c .before .before .before .before .before .if2 .left))
 
--- src/search.rt:107:15
 fault-at-requires : tie.Need-fault-at-requires Inv-loop μ-loop Inv-nodes μ-nodes
 fault-at-requires c κs = search (needs, searching)
 
 enum-told : tie.Need-enum-told Inv-loop μ-loop Inv-nodes μ-nodes
 enum-told c = search (needs, searching)
 
--- src/search.rt:90:9
 nodes-less-2 : tie.Need-nodes-less-2 Inv-loop μ-loop Inv-nodes μ-nodes
 nodes-less-2 c = search (needs, searching)
 
--- src/search.rt:90:9
 nodes-again-2 : tie.Need-nodes-again-2 Inv-loop μ-loop Inv-nodes μ-nodes
 nodes-again-2 c = search-next _ _ _ _ _ (c .before .before .before .before .before .before .before .before .before .before .before .before .before .before .before .before .before .pre) _ _ _ _ (c .before .before .before .before .before .before .before .before .before .before .before .before .nodes .inv) (c .before .before .before .before .before .before .before .before .before .before .before .if1 .left) _ (c .before .before .before .before .before .before .before .before .before .before .is-own .ensures) _ (c .before .before .before .before .before .before .before .before .node-id .ensures) (c .before .before .before .before .before .before .before .before .before .if2 .left) _ (c .before .before .before .before .before .before .before .node-route .ensures) _ _ (c .before .before .before .before .before .before .loop .inv) _ (c .before .before .before .before .before .leads-up-to .ensures) (c .before .before .before .before .if3 .left) _ (c .before .before .before .held-route .ensures) (ap findingOf (sym (c .enum-told .given .1)) ∙ c .before .before .fault-at .ensures)
 
--- src/search.rt:109:29
 enum-known-route : tie.Need-enum-known-route Inv-loop μ-loop Inv-nodes μ-nodes
 enum-known-route c = search (needs, searching)
 
--- src/search.rt:112:33
 enum-known-route-2 : tie.Need-enum-known-route-2 Inv-loop μ-loop Inv-nodes μ-nodes
 enum-known-route-2 c = search (needs, searching)
 
--- src/search.rt:115:32
 enum-known-route-3 : tie.Need-enum-known-route-3 Inv-loop μ-loop Inv-nodes μ-nodes
 enum-known-route-3 c = search (needs, searching)
 
--- src/search.rt:82:1
 returns : tie.Need-returns Inv-loop μ-loop Inv-nodes μ-nodes
 returns c = search (needs, searching)
 
--- src/search.rt:82:1
 returns-2 : tie.Need-returns-2 Inv-loop μ-loop Inv-nodes μ-nodes
 returns-2 c = search-found _ _ _ _ _ (c .before .before .before .before .before .before .before .before .before .before .before .before .before .before .before .before .before .before .pre) _ _ _ _ (c .before .before .before .before .before .before .before .before .before .before .before .before .before .nodes .inv) (c .before .before .before .before .before .before .before .before .before .before .before .before .if1 .left) _ (c .before .before .before .before .before .before .before .before .before .before .before .is-own .ensures) _ (c .before .before .before .before .before .before .before .before .before .node-id .ensures) (c .before .before .before .before .before .before .before .before .before .before .if2 .left) _ (c .before .before .before .before .before .before .before .before .node-route .ensures) _ _ (c .before .before .before .before .before .before .before .loop .inv) _ (c .before .before .before .before .before .before .leads-up-to .ensures) (c .before .before .before .before .before .if3 .left) _ (c .before .before .before .before .held-route .ensures) _ _ (ap findingOf (sym (c .before .route .given .1)) ∙ c .before .before .before .fault-at .ensures)
 
--- src/search.rt:82:1
 returns-3 : tie.Need-returns-3 Inv-loop μ-loop Inv-nodes μ-nodes
 returns-3 c = search-found _ _ _ _ _ (c .before .before .before .before .before .before .before .before .before .before .before .before .before .before .before .before .before .before .pre) _ _ _ _ (c .before .before .before .before .before .before .before .before .before .before .before .before .before .nodes .inv) (c .before .before .before .before .before .before .before .before .before .before .before .before .if1 .left) _ (c .before .before .before .before .before .before .before .before .before .before .before .is-own .ensures) _ (c .before .before .before .before .before .before .before .before .before .node-id .ensures) (c .before .before .before .before .before .before .before .before .before .before .if2 .left) _ (c .before .before .before .before .before .before .before .before .node-route .ensures) _ _ (c .before .before .before .before .before .before .before .loop .inv) _ (c .before .before .before .before .before .before .leads-up-to .ensures) (c .before .before .before .before .before .if3 .left) _ (c .before .before .before .before .held-route .ensures) _ _ (ap findingOf (sym (c .before .route2 .given .1)) ∙ c .before .before .before .fault-at .ensures)
 
--- src/search.rt:82:1
 returns-4 : tie.Need-returns-4 Inv-loop μ-loop Inv-nodes μ-nodes
 returns-4 c = search-found _ _ _ _ _ (c .before .before .before .before .before .before .before .before .before .before .before .before .before .before .before .before .before .before .pre) _ _ _ _ (c .before .before .before .before .before .before .before .before .before .before .before .before .before .nodes .inv) (c .before .before .before .before .before .before .before .before .before .before .before .before .if1 .left) _ (c .before .before .before .before .before .before .before .before .before .before .before .is-own .ensures) _ (c .before .before .before .before .before .before .before .before .before .node-id .ensures) (c .before .before .before .before .before .before .before .before .before .before .if2 .left) _ (c .before .before .before .before .before .before .before .before .node-route .ensures) _ _ (c .before .before .before .before .before .before .before .loop .inv) _ (c .before .before .before .before .before .before .leads-up-to .ensures) (c .before .before .before .before .before .if3 .left) _ (c .before .before .before .before .held-route .ensures) _ _ (ap findingOf (sym (c .before .route3 .given .1)) ∙ c .before .before .before .fault-at .ensures)
 
