@@ -5,7 +5,7 @@ use Rattle.routes.specs.Demand.{meets}
 use Rattle.routes.specs.declared.Demand.{Demand}
 use Rattle.routes.specs.declared.Route.{Route}
 use Rattle.networks.specs.Answer.{Answer, given, refused}
-use Rattle.networks.specs.Judge.{Finding as Found, pass, found}
+use Rattle.networks.specs.Judge.{Finding as Found, Verdict as Judged, pass, found}
 use Rattle.records.specs.Numbers.{numbersOf}
 use Rattle.judging.specs.declared.Fault.{Fault}
 use Rattle.judging.specs.declared.Fault.the-variants.{NoFault, FaultDue, FaultPromise, FaultDemand}
