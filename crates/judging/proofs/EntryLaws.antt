@@ -21,6 +21,7 @@ use Rattle.networks.specs.Answer.{Answer, refused, isSome, unentered}
 use Rattle.networks.specs.Judge.{Verdict, judge}
 use Rattle.networks.specs.Network.{Own, Input, own, input}
 use Rattle.networks.specs.Sheets.{ListEntry, listed}
+use Rattle.records.specs.Cases.{refusal-number}
 use Rattle.records.specs.Entries.{entryCount, entryId, entryOf, entryOffset, EntriesRoom, listRefusal}
 use Rattle.records.specs.Fine.{NetworkFine, EntriesFine, network-fine, entries-fine}
 use Rattle.records.specs.Form.{Usable, version1, listLead, nodeWidth, entryWidth}
@@ -35,36 +36,12 @@ use Rattle.records.specs.declared.Check.{Check}
 use Rattle.records.specs.declared.Check.the-variants.{Fine, Refused}
 use Rattle.records.specs.declared.Form.{Form}
 use Rattle.records.specs.declared.Refusal.{Refusal}
-use Rattle.records.specs.declared.Refusal.the-variants.{Short, Version, Counts, Length, Behind, IllPolicy, IllNode, NoOwn, IllEdge, NoEdgeOut, EntriesShort, EntriesVersion, EntriesCount, EntriesLength, EntriesBehind, IllEntry, NoEntry, NoFragment, NoteDiffers, NoRoom}
 use Rattle.reading.specs.Parts.{boxAt, listEntryAt}
 use Rattle.reading.specs.Whole.{readNetwork, readList}
 use Rattle.reading.proofs.Lowest.{passed, lowest-rows}
 use Rattle.reading.proofs.Said.{box-id-at}
 use Rattle.judging.specs.Judging.{judgeAt, judgeRecords, verdictAt}
 use Rattle.judging.specs.Ready.{Placed, Prepared, enteredAt, PlacedTo}
-
--- no refusal has number 0
-refusal-number : (r : Refusal) → eqb (numbersOf r .number) 0 ≡ false
-refusal-number (Short n) = refl
-refusal-number Version = refl
-refusal-number Counts = refl
-refusal-number Length = refl
-refusal-number (Behind n) = refl
-refusal-number (IllPolicy n) = refl
-refusal-number (IllNode n) = refl
-refusal-number (NoOwn n) = refl
-refusal-number (IllEdge n) = refl
-refusal-number (NoEdgeOut n) = refl
-refusal-number (EntriesShort n) = refl
-refusal-number EntriesVersion = refl
-refusal-number EntriesCount = refl
-refusal-number EntriesLength = refl
-refusal-number (EntriesBehind n) = refl
-refusal-number (IllEntry n) = refl
-refusal-number (NoEntry n) = refl
-refusal-number (NoFragment n) = refl
-refusal-number (NoteDiffers n) = refl
-refusal-number (NoRoom n) = refl
 
 module _ (network list : List ℕ) (c : Check) (h : checkNumbers c ≡ networkRefusal network) where
   pub network-refused : (r : Refusal) → c ≡ Refused r → refused (numbersOf r .number) (numbersOf r .place) ≡ judgeRecords network list

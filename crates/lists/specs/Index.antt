@@ -1,6 +1,7 @@
 -- A table from ids to places: at an id one more than the first place at which it stands, or 0 where it stands nowhere.
 --     mark               what the table holds at an id
 --     Indexing, ..       what a loop knows that fills a table of zeros from the last place to the first
+--     table-next         a table that is filled from the first place on
 use Prim.Native.Nat.{ℕ, _+_, _-_, _≤_, _<_}
 use native.Mathlib.Nat.{eq-or-lt-of-le}
 use native.Mathlib.Omega.{arith}
@@ -68,3 +69,14 @@ module _ (ids : ℕ → ℕ) (n top : ℕ) (t : List ℕ) where
   pub indexing-end : Indexing ids n top 0 t → (x : ℕ) → x < top → getD t x 0 ≡ mark ids n x
   unfolding Indexing
   indexing-end h x l = marked-all ids n x (getD t x 0) (h x l)
+
+-- a table whose entries below i are as they should be, with the i-th stored
+pub table-next : (P : ℕ → ℕ → Type 0) (t : List ℕ) (i v : ℕ) → i < length t → ((k : ℕ) → k < i → P k (getD t k 0)) → P i v
+    → (k : ℕ) → k < i + 1 → P k (getD (set t i v) k 0)
+table-next P t i v l h p k m = go (eqb k i) refl
+  where
+    go : (s : Bool) → eqb k i ≡ s → P k (getD (set t i v) k 0)
+    go true s = let e : k ≡ i = eqb-true k i s in rw (e, getD-set-same t i v 0 l) p
+    go false s =
+        let d : k ≡ i → ⊥ = eqb-false k i s in
+        rw (getD-set-other t i k v 0 d) (h k (omega arith))

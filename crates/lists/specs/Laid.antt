@@ -3,6 +3,7 @@
 --     copied-over           what a copy to a buffer's start leaves
 --     Laid                  what a writer knows between two parts
 --     laid-start, laid-put, laid-lend, laid-done     its start, one part more, a part by a writer that is lent the rest, its end
+--     two-fit, two-laid     a first part over the start, and the rest by a writer that is lent what remains
 use mathlib.Core.Path.{_≡_, refl, _∙_, sym, ap}
 use mathlib.Core.Bool.{cond}
 use mathlib.Core.List.{List, [], _++_, append-assoc, append-nil}
@@ -140,3 +141,14 @@ pub laid-done : (out₀ out : List ℕ) (at : ℕ) (rest all : List ℕ) → Lai
 laid-done out₀ out at rest all l e =
     let f : l .written ≡ all = sym (append-nil (l .written)) ∙ (ap (λ (r : List ℕ). l .written ++ r) (sym e) ∙ l .left) in
     (l .there ∙ ap length f, l .is ∙ ap (λ (w : List ℕ). over w out₀) f)
+
+module _ (out₀ out first rest : List ℕ) (a : ℕ) (e : out ≡ over first out₀) (there : a ≡ length first) (room : length (first ++ rest) ≤ length out₀) where
+  two : Laid out₀ out a (rest ++ []) (first ++ rest)
+  two = laid-last out₀ out a rest (first ++ rest) (rw there (laid-head out₀ out first rest e room))
+
+  pub two-fit : length rest ≤ length (take (length out - a) (drop a out))
+  two-fit = lend-fits out₀ out a rest [] (first ++ rest) room two
+
+  pub two-laid : (back : List ℕ) → back ≡ over rest (take (length out - a) (drop a out))
+      → take a out ++ (back ++ drop (length out - a) (drop a out)) ≡ over (first ++ rest) out₀
+  two-laid back f = laid-done _ _ _ [] _ (laid-lend out₀ out a rest [] (first ++ rest) room two back (length rest) refl f) refl .1

@@ -12,6 +12,7 @@ pub mod Rows
 pub mod Table
 pub mod Codec
 pub mod Laid
+pub mod Gather
 pub mod Stores
 pub mod Lent
 pub mod Best

@@ -1,5 +1,6 @@
 -- A loop over n parts that carries the offset of the i-th and looks for the first bad one.
---     Walk, walk-..       the loop alone
+--     Seek, seek-..       the loop alone, with no offset
+--     Walk, walk-..       the loop that carries the offset
 --     Climb, climb-..     the loop where ids are to rise, which carries the least id that may come
 -- A part is judged by a test on its offset, whose answer the code holds. The laws over the parts of a record are made of these.
 use Prim.Native.Nat.{ℕ, _+_, _≤_, _<_, zero-le}
@@ -11,6 +12,26 @@ use borrow.Author.Tests.{le-leb, lt-leb, not-true, not-false}
 use Rattle.lists.specs.First.{firstBad, Passed, passed-none, passed-more, passed-stop, passed-end}
 use Rattle.lists.specs.Rising.{least, least-start, least-next}
 use Rattle.lists.specs.Test.{and-i}
+
+pub record Seek (ok : ℕ → Bool) (n i : ℕ) : Type 0 where
+  pub within : i ≤ n
+  pub passed : Passed ok i
+
+pub seek-start : (ok : ℕ → Bool) (n : ℕ) → Seek ok n 0
+seek-start ok n = record { within = zero-le; passed = passed-none ok }
+
+module _ (ok : ℕ → Bool) (n i : ℕ) (s : Seek ok n i) where
+  pub seek-end : n ≤ i → i ≡ firstBad ok n
+  seek-end l = passed-end ok n i l (s .within) (s .passed)
+
+  module _ (l : i < n) (t : Bool) (e : t ≡ ok i) where
+    pub seek-bad : not t ≡ true → i ≡ firstBad ok n
+    seek-bad y = passed-stop ok n i l (s .passed) (sym e ∙ not-true t y)
+
+    pub seek-next : not t ≡ false → Seek ok n (i + 1)
+    seek-next y = record { within = omega arith; passed = passed-more ok i (s .passed) (sym e ∙ not-false t y) }
+
+pub ruleset seeking = (seek-start, seek-end, seek-bad, seek-next)
 
 pub record Walk (offset : ℕ → ℕ) (ok : ℕ → Bool) (n i o : ℕ) : Type 0 where
   pub within : i ≤ n

@@ -1,6 +1,6 @@
 -- A refusal is known by its numbers, and so is what a check finds: any two answers with the same numbers are the same.
 use mathlib.Core.Path.{_≡_, refl, sym, ap, _∙_}
-use mathlib.Core.Bool.{cond}
+use mathlib.Core.Bool.{false, cond}
 use mathlib.Core.List.{[], _∷_}
 use native.Mathlib.Omega.{arith}
 use lib.Dec.{eqb}
@@ -73,10 +73,13 @@ numbered r z =
     let e : 20 ≡ numbersOf r .number = ap (λ (x : Refusal). numbersOf x .number) (sym last ∙ numbers-case r) in
     omega arith
 
+pub refusal-number : (r : Refusal) → eqb (numbersOf r .number) 0 ≡ false
+refusal-number r = ne-eqb (numbersOf r .number) 0 (numbered r)
+
 pub numbers-check : (c : Check) → checkOf (checkNumbers c) ≡ c
 unfolding checkOf
 numbers-check Fine = refl
-numbers-check (Refused r) = rw (ne-eqb (numbersOf r .number) 0 (numbered r)) (ap Refused (numbers-case r))
+numbers-check (Refused r) = rw (refusal-number r) (ap Refused (numbers-case r))
 
 -- a contract that gives the numbers allows one answer
 pub one-check : (n : Numbers) (c d : Check) → checkNumbers c ≡ n → checkNumbers d ≡ n → c ≡ d

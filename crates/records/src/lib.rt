@@ -23,6 +23,7 @@ pub use layout::node_offset;
 pub use layout::node_part;
 pub use layout::node_width;
 pub use layout::policy_offset;
+pub use layout::stride;
 pub use layout::wide;
 pub use layout::wide16;
 pub use lookup::entry_of;

@@ -66,7 +66,7 @@ pub fn route_at(width: usize, b: &[u8], at: usize) -> Route
 }
 
 // Stores n zero bytes of out at an offset. The other bytes keep their values.
-fn put_zeros(out: &mut [u8], at: usize, n: usize)
+pub fn put_zeros(out: &mut [u8], at: usize, n: usize)
     requires { ⌜ at + n ≤ length (now out) ⌝ }
     ensures { λ _. ⌜ now (out .exit) ≡ sets (now (out .entry)) at (replicate n 0) ⌝ }
 {

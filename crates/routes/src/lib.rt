@@ -12,6 +12,7 @@ pub use form::policy_at;
 pub use form::policy_formed;
 pub use form::put_policy;
 pub use form::put_route;
+pub use form::put_zeros;
 pub use form::route_at;
 pub use form::route_formed;
 pub use met::is_met;

@@ -1,0 +1,208 @@
+-- The cutter's answers, refusal by refusal.
+--     placing               20, or the record in its place
+--     cutting-17, cutting-18, cutting-19     the others
+use Prim.Native.Nat.{ℕ, _≤_, _<_}
+use native.Mathlib.Omega.{arith}
+use mathlib.Core.Bool.{Bool, cond, not}
+use mathlib.Core.List.{List}
+use mathlib.Core.Option.{none, some}
+use mathlib.Core.Path.{_≡_, refl, sym, ap, _∙_}
+use lib.Dec.{eqb, ltb}
+use lib.ListN.{length}
+use borrow.Author.Tests.{eq-eqb, ne-eqb, lt-ltb, le-ltb, le-leb, lt-leb}
+use Rattle.lists.specs.All.{any}
+use Rattle.lists.specs.Filter.{holds, any-filterMap}
+use Rattle.lists.specs.First.{firstBad, every, every-ext, first-le}
+use Rattle.lists.specs.Gather.{count, count-le}
+use Rattle.lists.specs.Laid.{over, placed, placed-fits, placed-short}
+use Rattle.lists.specs.Stride.{at}
+use Rattle.lists.specs.Table.{any-rows}
+use Rattle.routes.specs.declared.Demand.{Demand}
+use Rattle.routes.specs.declared.Route.{Route}
+use Rattle.networks.specs.Answer.{Answer, given, refused, isSome, lowest, unentered}
+use Rattle.networks.specs.Cut.{numbered, clashes, cut}
+use Rattle.networks.specs.House.{house}
+use Rattle.networks.specs.Network.{Own, Box, own, input, asOwn, ownBoxes}
+use Rattle.networks.specs.Sheets.{note}
+use Rattle.records.specs.Form.{nodeWidth}
+use Rattle.records.specs.Layout.{nodeCount, edgeCount, nodePart, nodeOffset}
+use Rattle.records.specs.Node.{nodeId}
+use Rattle.records.specs.declared.Form.{Form}
+use Rattle.reading.specs.Parts.{boxAt}
+use Rattle.reading.specs.Whole.{HouseNetwork, HouseSheet, readNetwork, readSheet, writeNetwork}
+use Rattle.reading.proofs.Lowest.{passed, lowest-rows}
+use Rattle.reading.proofs.Said.{box-id-at}
+use Rattle.cutting.specs.Cutting.{cutSaid, roomFor, recordAnswer, laidAnswer}
+use Rattle.cutting.specs.Parts.{keeps, fragmentIn, Tabled, Entered, Asked}
+use Rattle.cutting.specs.Pieces.{sizeOf}
+use Rattle.cutting.specs.Tables.{boxIn, ownMeets, entered, otherNumber, unclashed, Noted, Numbered, reaches}
+use Rattle.cutting.proofs.RecordLaws.{record-long}
+
+-- the counts are small
+module _ (f : Form) (network sheet rows entries numbers parts : List ℕ) (k : ℕ) (t : Tabled f network sheet rows entries numbers parts k) (n : ℕ) where
+  pub nodes-low : n ≡ count (keeps f network sheet k) (nodeCount network) → n ≤ 65535
+  nodes-low p = let few = t .checked .room .few in let most = t .checked .room .usable .few in omega (arith, count-le (keeps f network sheet k) (nodeCount network))
+
+  pub edges-low : n ≡ count (reaches f network sheet k) (edgeCount network) → n ≤ 65535
+  edges-low q = let few = t .checked .sound .few-edges in omega (arith, count-le (reaches f network sheet k) (edgeCount network))
+
+-- the record in its place, or too long for it
+module _ (f : Form) (network sheet rows entries numbers parts : List ℕ) (k : ℕ) (t : Tabled f network sheet rows entries numbers parts k) (nodes edges size : ℕ)
+    (p : nodes ≡ count (keeps f network sheet k) (nodeCount network)) (q : edges ≡ count (reaches f network sheet k) (edgeCount network))
+    (s : size ≡ sizeOf f network nodes edges) (out : List ℕ) where
+  abbrev W : List ℕ
+  W = writeNetwork f (fragmentIn f network sheet k)
+
+  long : length W ≡ size
+  long = sym (record-long f network sheet rows entries numbers parts k t nodes edges p q size s)
+
+  pub place-short : length out < size → refused 20 size ≡ roomFor (length out) W
+  place-short h = rw (long, lt-leb size (length out) h)
+
+  pub place-kept : length out < size → out ≡ placed W out
+  place-kept h = let e = long in placed-short W out out (omega arith) refl
+
+  pub place-done : size ≤ length out → given size ≡ roomFor (length out) W
+  place-done h = rw (long, le-leb size (length out) h)
+
+  pub place-laid : (out′ : List ℕ) → size ≤ length out → out′ ≡ over W out → out′ ≡ placed W out
+  place-laid out′ h e = let g = long in placed-fits W out out′ (omega arith) e
+
+pub ruleset placing = (nodes-low, edges-low, place-short, place-kept, place-done, place-laid)
+
+-- the lowest own box that meets a test, by its row
+module _ (f : Form) (network : List ℕ) (test : Own Route Demand → Bool) where
+  passes : (v : Box Route Demand) → not (holds test (asOwn v)) ≡ passed test v
+  passes (own b) = refl
+  passes (input a) = refl
+
+  row-passes : (i : ℕ) → not (ownMeets f network test i) ≡ passed test (boxAt (f .route) network (at (nodePart network) (nodeWidth f) i))
+  unfolding ownMeets boxIn nodeOffset
+  row-passes i = passes (boxAt (f .route) network (at (nodePart network) (nodeWidth f) i))
+
+  module _ (ok : ℕ → Bool) (same : (i : ℕ) → ok i ≡ not (ownMeets f network test i)) where
+    lowest-own : lowest test (ownBoxes (readNetwork f network))
+        ≡ cond (ltb (firstBad ok (nodeCount network)) (nodeCount network)) (some (nodeId f network (firstBad ok (nodeCount network)))) none
+    unfolding readNetwork nodeId nodeOffset
+    lowest-own =
+        lowest-rows test (boxAt (f .route) network) (nodeWidth f) ok (nodePart network) (nodeCount network) (λ i l. same i ∙ row-passes i)
+        ∙ ap (λ (x : ℕ). cond (ltb (firstBad ok (nodeCount network)) (nodeCount network)) (some x) none) (box-id-at (f .route) network _)
+
+    any-own : any test (ownBoxes (readNetwork f network)) ≡ not (eqb (firstBad ok (nodeCount network)) (nodeCount network))
+    unfolding readNetwork every ownMeets boxIn nodeOffset
+    any-own =
+        any-filterMap test asOwn (readNetwork f network .boxes)
+        ∙ any-rows (λ (v : Box Route Demand). holds test (asOwn v)) (boxAt (f .route) network) (nodeWidth f) (nodePart network) (nodeCount network)
+        ∙ ap not (every-ext _ _ (nodeCount network) (λ i l. sym (same i)))
+
+module _ (f : Form) (network sheet : List ℕ) (k : ℕ) where
+  abbrev N : HouseNetwork
+  N = readNetwork f network
+
+  abbrev S : HouseSheet
+  S = readSheet f sheet
+
+  -- 17, 18 and 19 by the rows that they name
+  unentered-is : unentered N (note S)
+      ≡ cond (ltb (firstBad (entered f network sheet) (nodeCount network)) (nodeCount network)) (some (nodeId f network (firstBad (entered f network sheet) (nodeCount network)))) none
+  unfolding entered
+  unentered-is = lowest-own f network (λ (b : Own Route Demand). not (isSome (note S (b .id)))) (entered f network sheet) (λ i. refl)
+
+  asked-is : any (numbered N S k) (ownBoxes N) ≡ not (eqb (firstBad (otherNumber f network sheet k) (nodeCount network)) (nodeCount network))
+  unfolding otherNumber
+  asked-is = any-own f network (numbered N S k) (otherNumber f network sheet k) (λ i. refl)
+
+  clash-is : lowest (clashes (house 65535) N S) (ownBoxes N)
+      ≡ cond (ltb (firstBad (unclashed f network sheet) (nodeCount network)) (nodeCount network)) (some (nodeId f network (firstBad (unclashed f network sheet) (nodeCount network)))) none
+  unfolding unclashed
+  clash-is = lowest-own f network (clashes (house 65535) N S) (unclashed f network sheet) (λ i. refl)
+
+  module _ (n : ℕ) (e : n ≡ nodeCount network) where
+    -- a row without an entry
+    module _ (missing : ℕ) (m : missing ≡ firstBad (entered f network sheet) n) where
+      at-missing : missing ≡ firstBad (entered f network sheet) (nodeCount network)
+      at-missing = rw (← e) m
+
+      module _ (l : missing < n) (id : ℕ) (d : id ≡ nodeId f network missing) where
+        said-17 : cutSaid f network sheet k ≡ refused 17 id
+        unfolding cutSaid cut
+        said-17 = rw (unentered-is, ← at-missing, lt-ltb missing (nodeCount network) (omega arith), d)
+
+        pub answer-17 : (room : ℕ) → refused 17 id ≡ recordAnswer f room (cutSaid f network sheet k)
+        answer-17 room = rw said-17
+
+        pub buffer-17 : (out : List ℕ) → out ≡ laidAnswer f (cutSaid f network sheet k) out
+        buffer-17 out = rw said-17
+
+      pub missing-row : missing < n → missing < nodeCount network
+      missing-row l = omega arith
+
+      module _ (l : n ≤ missing) where
+        none-missing : unentered N (note S) ≡ none
+        none-missing = unentered-is ∙ rw (← at-missing, le-ltb missing (nodeCount network) (omega arith))
+
+        pub all-noted : (entries : List ℕ) → (missing ≡ n → Noted f network sheet n entries) → Noted f network sheet (nodeCount network) entries
+        all-noted entries h = let z = first-le (entered f network sheet) n in rw (← e) (h (omega arith))
+
+        pub all-numbered : (numbers : List ℕ) → (missing ≡ n → Numbered f network sheet n numbers) → Numbered f network sheet (nodeCount network) numbers
+        all-numbered numbers h = let z = first-le (entered f network sheet) n in rw (← e) (h (omega arith))
+
+        pub all-entered : Entered f network sheet
+        unfolding Entered
+        all-entered = none-missing
+
+    -- no own node with the number asked, or one
+    module _ (h : Entered f network sheet) (asked : ℕ) (q : asked ≡ firstBad (otherNumber f network sheet k) n) where
+      at-asked : asked ≡ firstBad (otherNumber f network sheet k) (nodeCount network)
+      at-asked = rw (← e) q
+
+      module _ (z : asked ≡ n) where
+        said-18 : cutSaid f network sheet k ≡ refused 18 k
+        unfolding cutSaid cut Entered
+        said-18 = rw (h, asked-is, ← at-asked, eq-eqb asked (nodeCount network) (z ∙ e))
+
+        pub answer-18 : (room : ℕ) → refused 18 k ≡ recordAnswer f room (cutSaid f network sheet k)
+        answer-18 room = rw said-18
+
+        pub buffer-18 : (out : List ℕ) → out ≡ laidAnswer f (cutSaid f network sheet k) out
+        buffer-18 out = rw said-18
+
+      pub one-asked : (asked ≡ n → ⊥) → Asked f network sheet k
+      unfolding Asked
+      one-asked z = asked-is ∙ rw (← at-asked, ne-eqb asked (nodeCount network) (λ y. z (y ∙ sym e)))
+
+    -- a row whose promise is not its note, or none
+    module _ (h : Entered f network sheet) (a : Asked f network sheet k) (clash : ℕ) (q : clash ≡ firstBad (unclashed f network sheet) n) where
+      at-clash : clash ≡ firstBad (unclashed f network sheet) (nodeCount network)
+      at-clash = rw (← e) q
+
+      module _ (l : clash < n) (id : ℕ) (d : id ≡ nodeId f network clash) where
+        said-19 : cutSaid f network sheet k ≡ refused 19 id
+        unfolding cutSaid cut Entered Asked
+        said-19 = rw (h, a, clash-is, ← at-clash, lt-ltb clash (nodeCount network) (omega arith), d)
+
+        pub answer-19 : (room : ℕ) → refused 19 id ≡ recordAnswer f room (cutSaid f network sheet k)
+        answer-19 room = rw said-19
+
+        pub buffer-19 : (out : List ℕ) → out ≡ laidAnswer f (cutSaid f network sheet k) out
+        buffer-19 out = rw said-19
+
+      pub clash-row : clash < n → clash < nodeCount network
+      clash-row l = omega arith
+
+      module _ (l : n ≤ clash) where
+        said-cut : cutSaid f network sheet k ≡ given (fragmentIn f network sheet k)
+        unfolding cutSaid cut fragmentIn Entered Asked
+        said-cut = rw (h, a, clash-is, ← at-clash, le-ltb clash (nodeCount network) (omega arith))
+
+        pub answer-cut : (room : ℕ) (r : Answer ℕ) → r ≡ roomFor room (writeNetwork f (fragmentIn f network sheet k)) → r ≡ recordAnswer f room (cutSaid f network sheet k)
+        answer-cut room r p = rw said-cut p
+
+        pub buffer-cut : (out out′ : List ℕ) → out′ ≡ placed (writeNetwork f (fragmentIn f network sheet k)) out → out′ ≡ laidAnswer f (cutSaid f network sheet k) out
+        buffer-cut out out′ p = rw said-cut p
+
+pub ruleset cutting-17 = (answer-17, buffer-17, missing-row, all-noted, all-numbered, all-entered)
+
+pub ruleset cutting-18 = (answer-18, buffer-18, one-asked)
+
+pub ruleset cutting-19 = (answer-19, buffer-19, clash-row, answer-cut, buffer-cut)

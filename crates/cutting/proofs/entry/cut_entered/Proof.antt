@@ -1,0 +1,37 @@
+use Rattle.cutting.proofs.AnswerLaws.{cutting-18}
+use borrow.Author.Needs.{needs}
+use Rattle.cutting.proofs.entry.cut_entered.Statement.{statement}
+use Rattle.cutting.proofs.entry.cut_entered.Tie as tie
+
+u16-at-requires : tie.Need-u16-at-requires
+u16-at-requires c κs = search needs
+
+cast-n : tie.Need-cast-n
+cast-n c = search needs
+
+first-of-requires : tie.Need-first-of-requires
+first-of-requires c κs = search needs
+
+returns : tie.Need-returns
+returns c = (search cutting-18, search cutting-18)
+
+cut-asked-requires : tie.Need-cut-asked-requires
+cut-asked-requires c κs = (search needs, search needs, search needs, search needs, search cutting-18)
+
+same-length : tie.Need-same-length
+same-length c = search needs
+
+returns-2 : tie.Need-returns-2
+returns-2 c = search needs
+
+pub cut-entered-spec : {M : Type 1} → statement M
+cut-entered-spec =
+    tie.close
+    (tie.spec
+    u16-at-requires
+    cast-n
+    first-of-requires
+    returns
+    cut-asked-requires
+    same-length
+    returns-2)
