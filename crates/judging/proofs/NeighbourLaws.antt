@@ -1,18 +1,16 @@
 -- The lookup, as the code goes: a part of one record or the other, and an empty one for each refusal.
 use mathlib.Core.Path.{_≡_, refl, sym, ap, _∙_}
-use mathlib.Core.Bool.{Bool, true, false, cond}
+use mathlib.Core.Bool.{Bool, true, false}
 use mathlib.Core.List.{List, []}
-use mathlib.Core.Option.{Option, some, none}
 use Prim.Native.Nat.{ℕ, _+_, _-_, _^_, _≤_, _<_}
 use native.Mathlib.Omega.{arith}
-use lib.Dec.{ltb}
 use lib.ListN.{length, getD, take, drop}
 use mir.Syntax.{w64}
 use mir.Val.{Fits}
 use Rattle.lists.specs.First.{firstBad}
 use Rattle.numbers.specs.BigEndian.{u16At}
 use Rattle.routes.specs.declared.Route.{Route}
-use Rattle.networks.specs.Answer.{Answer, given, refused}
+use Rattle.networks.specs.Answer.{Answer, refused}
 use Rattle.networks.specs.Judge.{Verdict}
 use Rattle.records.specs.Edge.{boxed}
 use Rattle.records.specs.Entries.{entryCount, entryOffset, entryOf, listRefusal}
@@ -21,9 +19,7 @@ use Rattle.records.specs.Layout.{nodeCount, nodeOffset}
 use Rattle.records.specs.Network.{networkRefusal}
 use Rattle.records.specs.Node.{nodeId, rowOf, isOwn}
 use Rattle.records.specs.Numbers.{checkNumbers, numbersOf}
-use Rattle.records.specs.Offsets.{node-fields-room, entry-within, fine-room}
 use Rattle.records.specs.RowLaws.{row-found, mark-none, mark-boxed}
-use Rattle.records.specs.Rows.{Filled}
 use Rattle.records.specs.declared.Check.{Check}
 use Rattle.records.specs.declared.Check.the-variants.{Fine, Refused}
 use Rattle.records.specs.declared.Form.{Form}
@@ -32,7 +28,7 @@ use Rattle.judging.specs.Judging.{judgeAt, judgeRecords, verdictAt}
 use Rattle.judging.specs.Neighbour.{routePart, boxPart, namedPart, unlessRefused, neighbourAt, neighbourBytes}
 use Rattle.judging.specs.Ready.{Ready, Prepared, enteredAt}
 use Rattle.judging.proofs.EntryLaws.{network-refused, list-refused, records-judged, entry-lacking, all-entered}
-use Rattle.judging.proofs.SenderLaws.{sender-row, row-there, held-room}
+use Rattle.judging.proofs.SenderLaws.{node-route-room, entry-route-room, entry-route-fits, held-row, held-room, sender-row, row-there, sender-room}
 
 -- a part of a record
 pub part-is : (width : ℕ) (b : List ℕ) (o : ℕ) → take (o + width - o) (drop o b) ≡ routePart width b o
@@ -46,9 +42,7 @@ module _ (f : Form) (network list rows places : List ℕ) (h : Ready f network l
     own = rw (← sender-row f network list rows places h id q small m e) (sym w ∙ y)
 
     pub own-index : m - 1 < 1024
-    own-index =
-        let u = h .listed .usable .few in let n = h .listed .sound .few-nodes in
-        omega (arith, row-there f network list rows places h id q small m e)
+    own-index = held-row f network list places (m - 1) (h .listed) (row-there f network list rows places h id q small m e) (sym w ∙ y)
 
     module _ (k : ℕ) (p : k ≡ getD places (m - 1) 0) where
       entry-there : k < entryCount list
@@ -64,14 +58,11 @@ module _ (f : Form) (network list rows places : List ℕ) (h : Ready f network l
           ∙ ap (entryOf f listLead list) (row-found f network id q)
 
       module _ (o : ℕ) (at : o ≡ entryOffset f listLead k) where
-        entry-in : o + (2 + f .route) ≤ length list
-        entry-in = let n = h .listed .formed .whole in omega (arith, entry-within f listLead k (entryCount list) entry-there)
-
         pub own-room : o + 2 + f .route ≤ length list
-        own-room = omega (arith, entry-in)
+        own-room = entry-route-room f list k o at (h .listed .usable) (h .listed .formed) entry-there
 
         pub own-fits : length list < 2 ^ 64 → Fits w64 (o + 2)
-        own-fits g = omega (arith, entry-in)
+        own-fits = entry-route-fits f list k o at (h .listed .usable) (h .listed .formed) entry-there
 
         pub own-part : (x : List ℕ) → x ≡ routePart (f .route) list (o + 2) → x ≡ boxPart f network list id
         unfolding boxPart
@@ -82,7 +73,7 @@ module _ (f : Form) (network list rows places : List ℕ) (h : Ready f network l
     foreign = rw (← sender-row f network list rows places h id q small m e) (sym w ∙ y)
 
     pub input-room : o + 3 + f .route ≤ length network
-    input-room = omega (arith, node-fields-room f network (fine-room f network (h .listed .usable) (h .listed .sound)) (m - 1) (row-there f network list rows places h id q small m e))
+    input-room = node-route-room f network (m - 1) o at (sender-room f network list rows places h id q small m e) (row-there f network list rows places h id q small m e)
 
     pub input-part : (x : List ℕ) → x ≡ routePart (f .route) network (o + 3) → x ≡ boxPart f network list id
     unfolding boxPart
@@ -126,6 +117,7 @@ module _ (f : Form) (network list : List ℕ) (id row : ℕ) (e : row ≡ firstB
 
 pub ruleset asking = (asked-lacking, asked-named)
 
+-- the two records
 module _ (network list : List ℕ) (id : ℕ) (c : Check) (h : checkNumbers c ≡ networkRefusal network) where
   pub asked-network : (r : Refusal) → c ≡ Refused r → [] ≡ neighbourBytes network list id
   unfolding neighbourBytes
