@@ -6,3 +6,5 @@ pub mod PlaceLaws
 pub mod WalkLaws
 pub mod SearchLaws
 pub mod EntryLaws
+pub mod NeighbourLaws
+pub mod Neighbours

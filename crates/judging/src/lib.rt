@@ -1,10 +1,12 @@
 // Judging: the first fault of a proposal by rising id, or a pass.
 mod at_box;
 mod entry;
+mod lookup;
 mod search;
 mod senders;
 
 pub use entry::judge;
+pub use lookup::neighbour;
 use records::Refusal;
 use routes::Route;
 
