@@ -12,3 +12,5 @@ pub mod LayLaws
 pub mod RecordLaws
 pub mod AnswerLaws
 pub mod CheckLaws
+pub mod Answers
+pub mod OnBytes

@@ -5,7 +5,7 @@
 --     judge-finds, found-judged    a finding is the first by rising id; its count is of the own boxes up to the named one
 --     judge-refuses            a refusal: the network's, else the list's, else 17 at the lowest own box without an entry
 --     judge-same               lists that agree on the own boxes get the same answer
-use mathlib.Core.Path.{_≡_, sym, _∙_}
+use mathlib.Core.Path.{_≡_, _∙_}
 use mathlib.Core.List.{List}
 use mathlib.Core.Logic.{_⊎_, inl, inr, _↔_, ⊎-elim}
 use mathlib.Core.Option.{none, some}

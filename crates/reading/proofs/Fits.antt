@@ -14,7 +14,6 @@ use Rattle.lists.specs.Sorted.{find-all}
 use Rattle.lists.specs.Stride.{at}
 use Rattle.routes.specs.Form.{policyAt}
 use Rattle.routes.proofs.PolicyCodec.{PolicyFits, policy-read-fits}
-use Rattle.routes.proofs.RouteCodec.{RouteFits}
 use Rattle.routes.specs.declared.Demand.{Demand}
 use Rattle.routes.specs.declared.Route.{Route}
 use Rattle.networks.specs.Network.{Box, own, input}

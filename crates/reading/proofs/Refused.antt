@@ -2,7 +2,7 @@
 --     no-network, no-entries       an answer of a table without a number is that of no row
 --     unless-fine                  nothing is refused, so the answer stands
 --     unless-given, unless-refused what an answer tells of the refusals before it
-use mathlib.Core.Path.{_≡_, refl, sym, ap, _∙_}
+use mathlib.Core.Path.{_≡_, refl, _∙_}
 use mathlib.Core.Bool.{Bool, true, false, cond}
 use mathlib.Core.List.{List, [], _∷_}
 use mathlib.Core.Logic.{_⊎_, inl, inr}
