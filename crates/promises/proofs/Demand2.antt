@@ -14,6 +14,7 @@ use Rattle.networks.specs.Sheets.{listed}
 use Rattle.networks.proofs.Laws.Answers.{none-entered}
 use Rattle.networks.proofs.Laws.Boxes.{own-fact}
 use Rattle.networks.proofs.Laws.Uncut.{same-network}
+use Rattle.networks.proofs.PaperCut.{paper-cut}
 use Rattle.networks.proofs.Refusals.{judge-refused}
 use Rattle.records.specs.Form.{version1}
 use Rattle.records.specs.Numbers.{Numbers}
@@ -25,7 +26,8 @@ use Rattle.cutting.specs.Cutting.{cutNetwork}
 use Rattle.cutting.proofs.OnBytes.{cut-laid, cut-short, record-fine, record-small, record-read, record-shorter, record-largest}
 use Rattle.promises.specs.Calls.{networkOf, sheetOf, listOf, house1}
 use Rattle.promises.specs.Demand1.{firstRefused, cuttingRows}
-use Rattle.promises.specs.Demand2.{PassesExactly, PassCounts, FindsFirst, EntryAsked, NoneApplies, CutsFragment, RecordSound, OneFragment}
+use Rattle.promises.specs.Demand2.{PassesExactly, PassCounts, FindsFirst, EntryAsked, NoneApplies, CutsFragment, RecordSound, PaperFragment, OneFragment}
+use Rattle.promises.proofs.Cuts.{cuts-sound, cuts-said}
 use Rattle.promises.proofs.Demand1.{cut-rows}
 
 module _ (network list : List ℕ) where
@@ -84,6 +86,10 @@ module _ (network sheet : List ℕ) (k : ℕ) where
         record-shorter network sheet k small _ e,
         record-largest network sheet k small _ e,
       )
+
+  pub paper-fragment : PaperFragment network sheet k
+  paper-fragment small cuts = paper-cut house1 (bounds version1) (networkOf network) (sheetOf sheet) k
+      (cuts-sound network sheet cuts small) (cuts-said network sheet cuts small)
 
   pub one-fragment : OneFragment network sheet k
   one-fragment small n one =

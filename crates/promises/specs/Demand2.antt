@@ -15,6 +15,7 @@ use Rattle.networks.specs.Answer.{given, refused, LowestOwn, Entered}
 use Rattle.networks.specs.Cut.{fragment}
 use Rattle.networks.specs.Judge.{pass, found, fault, upTo}
 use Rattle.networks.specs.Network.{Own, own, ownBoxes, box, owns}
+use Rattle.networks.specs.Paper.{AgreesWithPaper}
 use Rattle.networks.specs.Sheets.{number, listed}
 use Rattle.networks.specs.Solution.{mapping, Solution, Demands}
 use Rattle.records.specs.Entries.{listRefusal}
@@ -23,7 +24,7 @@ use Rattle.records.specs.Numbers.{Numbers, fine}
 use Rattle.reading.specs.Whole.{HouseNetwork, HouseList}
 use Rattle.judging.specs.Judging.{judgeRecords}
 use Rattle.cutting.specs.Cutting.{cutRecords, cutBuffer}
-use Rattle.promises.specs.Calls.{networkOf, sheetOf, listOf, house1, Passes}
+use Rattle.promises.specs.Calls.{networkOf, sheetOf, listOf, house1, Passes, SheetCuts}
 use Rattle.promises.specs.Demand1.{cuttingRows, fragmentRecord}
 
 module _ (network list : List ℕ) where
@@ -74,6 +75,10 @@ module _ (network sheet : List ℕ) (k : ℕ) where
   RecordSound = Bytes network → Bytes sheet → NoneApplies (cuttingRows network sheet k)
       → (networkRefusal F ≡ fine) × Bytes F × (networkOf F ≡ fragment (networkOf network) (sheetOf sheet) k)
       × (length F ≤ length network) × (length F ≤ 35146)
+
+  -- The fragment is document 000's, point by point, less the edges that lead into inputs.
+  abbrev pub PaperFragment : Type 0
+  PaperFragment = Bytes network → SheetCuts network sheet → AgreesWithPaper house1 (networkOf network) (sheetOf sheet) k
 
   -- With all own boxes in one fragment, it is the network's own bytes.
   abbrev pub OneFragment : Type 0

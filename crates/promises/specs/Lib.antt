@@ -5,4 +5,5 @@ pub mod Demand2
 pub mod Demand3
 pub mod SameAnswer
 pub mod Determined
+pub mod BenchNetworks
 pub mod Bench
