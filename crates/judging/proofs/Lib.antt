@@ -1,4 +1,4 @@
--- What the two records say at the places that the search looks at.
+-- What the two records say at the places that the search looks at, and what the program prints.
 pub mod Said
 pub mod SenderLaws
 pub mod BoxLaws
@@ -6,3 +6,4 @@ pub mod PlaceLaws
 pub mod WalkLaws
 pub mod SearchLaws
 pub mod EntryLaws
+pub mod TextLaws
