@@ -12,5 +12,6 @@ pub mod LayLaws
 pub mod RecordLaws
 pub mod AnswerLaws
 pub mod CheckLaws
+-- The cutter's answer by its numbers; the theorems about networks, on bytes.
 pub mod Answers
 pub mod OnBytes

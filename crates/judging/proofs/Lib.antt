@@ -6,6 +6,6 @@ pub mod PlaceLaws
 pub mod WalkLaws
 pub mod SearchLaws
 pub mod EntryLaws
--- Which verdicts have an answer; the theorems about networks, on bytes.
+-- A verdict by its answer; the theorems about networks, on bytes.
 pub mod Answers
 pub mod OnBytes
