@@ -9,6 +9,6 @@ pub mod EntryLaws
 pub mod NeighbourLaws
 pub mod Neighbours
 pub mod TextLaws
--- Which verdicts have an answer; the theorems about networks, on bytes.
+-- A verdict by its answer; the theorems about networks, on bytes.
 pub mod Answers
 pub mod OnBytes

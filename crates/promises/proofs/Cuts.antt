@@ -1,31 +1,38 @@
 -- What a cut leaves in a buffer, by the fragment; and what a sheet that cuts a network tells of the two records.
 --     into-fragment, into-given        the record at the buffer's start is the fragment's
 --     twice-said                       one cut upon another's record is one cut upon another's fragment
+--     given-asked                      a fragment that is given was asked for by a byte
 --     cuts-network, cuts-sheet, cuts-said    neither record is refused, and the sheet cuts what the network says
 use mathlib.Core.Path.{_≡_, refl, sym, ap, _∙_}
-use mathlib.Core.Bool.{Bool, true, false, cond}
+use mathlib.Core.Bool.{Bool, true, false, cond, false≢true}
 use mathlib.Core.List.{List, [], _∷_}
 use mathlib.Core.Logic.{_⊎_, ⊎-elim}
-use Prim.Native.Nat.{ℕ, _≤_}
+use mathlib.Core.Option.{Option, none, some, Option·map, Option·getD}
+use Prim.Native.Nat.{ℕ, _≤_, _<_}
 use native.Mathlib.Omega.{arith}
 use lib.Dec.{eqb, leb}
 use lib.ListN.{length, take}
 use lib.Seq.{take-append-seam}
-use borrow.Author.Tests.{eqb-true, leb-true}
-use Rattle.lists.specs.All.{all}
+use borrow.Author.Tests.{eqb-true, ne-eqb, leb-true}
+use Rattle.lists.specs.All.{All, all, any, all-of, false-any}
 use Rattle.lists.specs.Codec.{Bytes}
-use Rattle.lists.specs.Test.{firstOf, and-l, and-r}
-use Rattle.networks.specs.Answer.{Answer, given, refused, andThen}
-use Rattle.networks.specs.Cut.{cut, cutTwice, Cuts}
+use Rattle.lists.specs.Sorted.{find-all}
+use Rattle.lists.specs.Test.{firstOf, and-l, and-r, le-or-lt}
+use Rattle.routes.specs.declared.Route.{Route}
+use Rattle.networks.specs.Answer.{Answer, given, refused, refuse, andThen, unentered}
+use Rattle.networks.specs.Cut.{numbered, cut, cutTwice, Cuts}
+use Rattle.networks.specs.Network.{ownBoxes}
+use Rattle.networks.specs.Sheets.{SheetEntry, sheetEntry, number, note}
 use Rattle.networks.specs.Sound.{Sound}
-use Rattle.networks.proofs.Laws.Answers.{given-same, refused-given}
+use Rattle.networks.proofs.Laws.Answers.{given-same, refused-given, refused-number}
+use Rattle.networks.proofs.Laws.Cutting.{cut-given}
 use Rattle.networks.proofs.Refusals.{cut-refused}
 use Rattle.records.specs.Entries.{entriesTable, entriesRefusal, sheetRefusal}
 use Rattle.records.specs.Form.{version1, sheetLead}
 use Rattle.records.specs.Network.{networkTable, networkRefusal}
 use Rattle.records.specs.Numbers.{Numbers, fine}
-use Rattle.reading.specs.Whole.{HouseNetwork, bounds, writeNetwork}
-use Rattle.reading.proofs.Bridges.{read-network}
+use Rattle.reading.specs.Whole.{HouseNetwork, HouseSheet, bounds, writeNetwork}
+use Rattle.reading.proofs.Bridges.{read-network, read-sheet}
 use Rattle.reading.proofs.Refused.{Rows, no-network, no-entries}
 use Rattle.cutting.specs.Cutting.{cutNetwork, cutRecords, cutBuffer}
 use Rattle.cutting.proofs.OnBytes.{cut-said, cut-laid, record-largest, record-fine, record-read, record-small}
@@ -94,8 +101,41 @@ sheet-within : (b : List ℕ) → sheetRefusal b .number ≤ 16
 unfolding entriesRefusal
 sheet-within b = within-rows 16 (entriesTable version1 sheetLead b) refl
 
-neither : (m : ℕ) → m ≤ 16 → (m ≡ 18) ⊎ (m ≡ 20) → ⊥
+neither : (m : ℕ) → m ≤ 17 → (m ≡ 18) ⊎ (m ≡ 20) → ⊥
 neither m l h = ⊎-elim (λ e. omega arith) (λ e. omega arith) h
+
+-- a well-formed sheet has no number over 64, which stands for no entry
+number-small : (S : HouseSheet) → All (λ (e : SheetEntry Route). e .fragment ≤ 63) S → (i : ℕ) → number S i ≤ 64
+unfolding number
+number-small S h i = go (sheetEntry S i) refl
+  where
+    go : (o : Option (SheetEntry Route)) → sheetEntry S i ≡ o → Option·getD (Option·map (λ (e : SheetEntry Route). e .fragment) o) 64 ≤ 64
+    go none q = omega arith
+    go (some e) q = let l = find-all (λ (x : SheetEntry Route). x .id) (λ (x : SheetEntry Route). x .fragment ≤ 63) i S e h q in omega arith
+
+module _ (network sheet : List ℕ) (sheet-small : Bytes sheet) (s : sheetRefusal sheet ≡ fine) (k : ℕ) where
+  abbrev N : HouseNetwork
+  N = networkOf network
+
+  abbrev S : HouseSheet
+  S = sheetOf sheet
+
+  none-asked : 256 ≤ k → any (numbered N S k) (ownBoxes N) ≡ false
+  none-asked l = false-any (numbered N S k) (ownBoxes N)
+      (all-of (ownBoxes N) (λ b. ne-eqb (number S (b .id)) k (λ e. let m = number-small S ((read-sheet sheet sheet-small s) .0 .fragments) (b .id) in omega arith)))
+
+  -- a number that is no byte is refused with 17 or 18
+  over-refused : 256 ≤ k → cut house1 N S k ≡ refuse 17 (unentered N (note S)) (refused 18 k)
+  unfolding cut
+  over-refused l = rw (none-asked l) refl
+
+  pub given-asked : (F : HouseNetwork) → cut house1 N S k ≡ given F → k < 256
+  given-asked F e = ⊎-elim (λ l. absurd (false≢true (sym (none-asked l) ∙ (cut-given house1 N S k F e) .1))) (λ l. l) (le-or-lt 256 k)
+
+-- 17 does not depend on the fragment asked
+unentered-refused : (N : HouseNetwork) (S : HouseSheet) (k i : ℕ) → unentered N (note S) ≡ some i → cut house1 N S k ≡ refused 17 i
+unfolding cut
+unentered-refused N S k i q = rw q refl
 
 module _ (network sheet : List ℕ) (cuts : SheetCuts network sheet) where
   pub cuts-network : networkRefusal network ≡ fine
@@ -105,7 +145,7 @@ module _ (network sheet : List ℕ) (cuts : SheetCuts network sheet) where
       go : (t : Bool) → eqb (networkRefusal network .number) 0 ≡ t → networkRefusal network ≡ fine
       go true q = no-network network (eqb-true _ 0 q)
       go false q = absurd (neither (networkRefusal network .number) (let l = network-within network in omega arith)
-          (cuts 0 0 (networkRefusal network .number) (networkRefusal network .place) (rw q refl)))
+          (cuts 0 0 (networkRefusal network .number) (networkRefusal network .place) (omega arith) (rw q refl)))
 
   pub cuts-sheet : sheetRefusal sheet ≡ fine
   unfolding cutRecords cutNetwork
@@ -113,19 +153,30 @@ module _ (network sheet : List ℕ) (cuts : SheetCuts network sheet) where
     where
       go : (t : Bool) → eqb (sheetRefusal sheet .number) 0 ≡ t → sheetRefusal sheet ≡ fine
       go true q = no-entries sheetLead sheet (eqb-true _ 0 q)
-      go false q = absurd (neither (sheetRefusal sheet .number) (sheet-within sheet)
-          (cuts 0 0 (sheetRefusal sheet .number) (sheetRefusal sheet .place) (rw (cuts-network, q) refl)))
+      go false q = absurd (neither (sheetRefusal sheet .number) (let l = sheet-within sheet in omega arith)
+          (cuts 0 0 (sheetRefusal sheet .number) (sheetRefusal sheet .place) (omega arith) (rw (cuts-network, q) refl)))
 
   module _ (small : Bytes network) where
     pub cuts-sound : Sound (bounds version1) (networkOf network)
     cuts-sound = (read-network network small cuts-network) .0
 
-    pub cuts-said : Cuts house1 (networkOf network) (sheetOf sheet)
+    -- a refusal of what the records say is 18 or 20
+    said-refused : (k n place : ℕ) → k < 256 → cut house1 (networkOf network) (sheetOf sheet) k ≡ refused n place → (n ≡ 18) ⊎ (n ≡ 20)
     unfolding cutRecords
-    cuts-said k n place e =
+    said-refused k n place l e =
         let c : cutNetwork network sheet k ≡ refused n place = cut-said network sheet k cuts-network cuts-sheet ∙ e in
-        ⊎-elim (λ h. h) (λ h. absurd (late h)) (cuts k 0 n place (rw c refl))
+        cuts k 0 n place l (rw c refl)
+
+    pub cuts-said : Bytes sheet → Cuts house1 (networkOf network) (sheetOf sheet)
+    cuts-said sheet-small k n place e = ⊎-elim over (λ l. ⊎-elim (λ h. h) (λ h. absurd (late h)) (said-refused k n place l e)) (le-or-lt 256 k)
       where
         late : n ≡ 20 → ⊥
         late h = ⊎-elim (λ r. let m = r .0 in omega arith) (λ r. ⊎-elim (λ t. let m = t .0 in omega arith) (λ t. let m = t .0 in omega arith) r)
             (cut-refused house1 (bounds version1) (networkOf network) cuts-sound (sheetOf sheet) k n place e)
+
+        over : 256 ≤ k → n ≡ 18
+        over l = go (unentered (networkOf network) (note (sheetOf sheet))) refl (sym (over-refused network sheet sheet-small cuts-sheet k l) ∙ e)
+          where
+            go : (o : Option ℕ) → unentered (networkOf network) (note (sheetOf sheet)) ≡ o → refuse {A = HouseNetwork} 17 o (refused 18 k) ≡ refused n place → n ≡ 18
+            go none q z = sym (refused-number z)
+            go (some i) q z = absurd (neither 17 (omega arith) (said-refused 0 17 i (omega arith) (unentered-refused (networkOf network) (sheetOf sheet) 0 i q)))

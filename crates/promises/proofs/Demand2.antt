@@ -88,8 +88,8 @@ module _ (network sheet : List ℕ) (k : ℕ) where
       )
 
   pub paper-fragment : PaperFragment network sheet k
-  paper-fragment small cuts = paper-cut house1 (bounds version1) (networkOf network) (sheetOf sheet) k
-      (cuts-sound network sheet cuts small) (cuts-said network sheet cuts small)
+  paper-fragment small sheet-small cuts = paper-cut house1 (bounds version1) (networkOf network) (sheetOf sheet) k
+      (cuts-sound network sheet cuts small) (cuts-said network sheet cuts small sheet-small)
 
   pub one-fragment : OneFragment network sheet k
   one-fragment small n one =

@@ -2,7 +2,7 @@
 use mathlib.Core.Path.{_≡_, sym, ap, _∙_, subst}
 use mathlib.Core.List.{List}
 use mathlib.Core.Logic.{_↔_}
-use Prim.Native.Nat.{ℕ}
+use Prim.Native.Nat.{ℕ, _<_}
 use native.Mathlib.Omega.{arith}
 use lib.ListN.{length, replicate, length-replicate}
 use Rattle.lists.specs.Codec.{Bytes}
@@ -26,7 +26,7 @@ use Rattle.cutting.proofs.OnBytes.{cut-said, record-fine, record-read, record-s
 use Rattle.reading.proofs.Bridges.{read-network}
 use Rattle.promises.specs.Calls.{networkOf, sheetOf, listOf, house1, Passes, cutInto, Roomy}
 use Rattle.promises.specs.Demand3.{FragmentsAndWhole, Refined, CommonRefinement, ApartRefused}
-use Rattle.promises.proofs.Cuts.{written, into-fragment, into-given, twice-said, cuts-network, cuts-sheet, cuts-sound, cuts-said}
+use Rattle.promises.proofs.Cuts.{written, into-fragment, into-given, twice-said, given-asked, cuts-network, cuts-sheet, cuts-sound, cuts-said}
 
 -- a list passes on bytes where it passes on what they say
 module _ (network list : List ℕ) (n : networkRefusal network ≡ fine) (l : listRefusal list ≡ fine) where
@@ -66,7 +66,7 @@ fragments-whole network sheet list small sheet-small cuts l entered = (
   λ h.
       let w = theorem .0 (λ k G e. in-part h k G (said k ∙ e)) in
       (said-passes network list n l (w .0), w .1),
-  λ h k out F roomy e.
+  λ h k out F asked roomy e.
       let g = into-given network sheet k out small roomy F e in
       subst (λ (b : List ℕ). Passes b list) (sym (g .2)) (record-passes network sheet list small sheet-small l k (g .0) (g .1)
       (theorem .1 (passes-said network list n l small (h .0), h .1) k (g .0) (sym (said k) ∙ g .1))),
@@ -81,12 +81,12 @@ fragments-whole network sheet list small sheet-small cuts l entered = (
     theorem : ((k : ℕ) (F : HouseNetwork) → cut house1 (networkOf network) (sheetOf sheet) k ≡ given F → Passing house1 F (listOf list))
         ↔ (Passing house1 (networkOf network) (listOf list) × Agrees (networkOf network) (sheetOf sheet) (listed (listOf list)))
     theorem = fragments-and-whole house1 (bounds version1) (networkOf network) (sheetOf sheet) (listOf list)
-        (cuts-sound network sheet cuts small) (cuts-said network sheet cuts small) entered
+        (cuts-sound network sheet cuts small) (cuts-said network sheet cuts small sheet-small) entered
 
-    in-part : ((k : ℕ) (out F : List ℕ) → Roomy out → cutInto network sheet k out ≡ given F → Passes F list)
+    in-part : ((k : ℕ) (out F : List ℕ) → k < 256 → Roomy out → cutInto network sheet k out ≡ given F → Passes F list)
         → (k : ℕ) (G : HouseNetwork) → cutNetwork network sheet k ≡ given G → Passing house1 G (listOf list)
     in-part h k G e = fragment-passes network sheet list small sheet-small l k G e
-        (h k blank (writeNetwork version1 G) blank-roomy
+        (h k blank (writeNetwork version1 G) (given-asked network sheet sheet-small (cuts-sheet network sheet cuts) k G (sym (said k) ∙ e)) blank-roomy
         (into-fragment network sheet k blank small blank-roomy ∙ ap (λ (a : Answer HouseNetwork). andThen a written) e))
 
 module _ (network X Y Z : List ℕ) (r : Refined network X Y Z) where
@@ -105,7 +105,7 @@ module _ (network X Y Z : List ℕ) (r : Refined network X Y Z) where
   sound = cuts-sound network Z (r .cuts) (r .bytes .0)
 
   cuts : Cuts house1 N (sheetOf Z)
-  cuts = cuts-said network Z (r .cuts) (r .bytes .0)
+  cuts = cuts-said network Z (r .cuts) (r .bytes .0) (r .bytes .3)
 
 pub common-refinement : (network X Y Z : List ℕ) → CommonRefinement network X Y Z
 common-refinement network X Y Z r w own o₁ o₂ o₃ roomy₁ roomy₂ roomy₃ = (

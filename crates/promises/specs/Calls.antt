@@ -7,7 +7,7 @@
 use mathlib.Core.Path.{_≡_}
 use mathlib.Core.List.{List}
 use mathlib.Core.Logic.{_⊎_}
-use Prim.Native.Nat.{ℕ, _≤_}
+use Prim.Native.Nat.{ℕ, _≤_, _<_}
 use lib.ListN.{length, take}
 use Rattle.networks.specs.Algebra.{Algebra}
 use Rattle.networks.specs.Answer.{Answer, given, refused, andThen}
@@ -40,6 +40,6 @@ cutInto network sheet k out = andThen (cutRecords network sheet k (length out)) 
 abbrev pub Roomy : List ℕ → Type 0
 Roomy out = 35146 ≤ length out
 
--- Cutting by the sheet can meet no refusal but 18 and 20, whatever fragment is asked and whatever the room.
+-- Cutting by the sheet can meet no refusal but 18 and 20, whatever fragment is asked, by a byte, and whatever the room.
 abbrev pub SheetCuts : List ℕ → List ℕ → Type 0
-SheetCuts network sheet = (k room number place : ℕ) → cutRecords network sheet k room ≡ refused number place → (number ≡ 18) ⊎ (number ≡ 20)
+SheetCuts network sheet = (k room number place : ℕ) → k < 256 → cutRecords network sheet k room ≡ refused number place → (number ≡ 18) ⊎ (number ≡ 20)

@@ -78,7 +78,7 @@ module _ (network sheet : List ℕ) (k : ℕ) where
 
   -- The fragment is document 000's, point by point, less the edges that lead into inputs.
   abbrev pub PaperFragment : Type 0
-  PaperFragment = Bytes network → SheetCuts network sheet → AgreesWithPaper house1 (networkOf network) (sheetOf sheet) k
+  PaperFragment = Bytes network → Bytes sheet → SheetCuts network sheet → AgreesWithPaper house1 (networkOf network) (sheetOf sheet) k
 
   -- With all own boxes in one fragment, it is the network's own bytes.
   abbrev pub OneFragment : Type 0

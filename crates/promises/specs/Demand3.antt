@@ -3,7 +3,7 @@ use mathlib.Core.Path.{_≡_}
 use mathlib.Core.Bool.{true}
 use mathlib.Core.List.{List}
 use mathlib.Core.Logic.{_↔_}
-use Prim.Native.Nat.{ℕ}
+use Prim.Native.Nat.{ℕ, _<_}
 use Rattle.lists.specs.Codec.{Bytes}
 use Rattle.networks.specs.Answer.{Answer, given, refused, andThen, Entered}
 use Rattle.networks.specs.Cut.{Agrees, Third}
@@ -13,11 +13,12 @@ use Rattle.records.specs.Entries.{listRefusal, sheetRefusal}
 use Rattle.records.specs.Numbers.{fine}
 use Rattle.promises.specs.Calls.{networkOf, sheetOf, listOf, Passes, cutInto, Roomy, SheetCuts}
 
--- A list with an entry for every own box, and a sheet that cuts the network: the list passes in every fragment exactly where it passes in
--- the whole and has the note at each box that a cut wire leaves.
+-- For a sound network, a well-formed list with an entry for every own box, and a sheet that cuts the network (so that neither of those two
+-- records is refused): the list passes in every fragment that the cutter gives exactly where it passes in the whole and has the note at each
+-- box that a cut wire leaves.
 abbrev pub FragmentsAndWhole : List ℕ → List ℕ → List ℕ → Type 0
 FragmentsAndWhole network sheet list = Bytes network → Bytes sheet → SheetCuts network sheet → listRefusal list ≡ fine → Entered (networkOf network) (listed (listOf list))
-    → ((k : ℕ) (out F : List ℕ) → Roomy out → cutInto network sheet k out ≡ given F → Passes F list)
+    → ((k : ℕ) (out F : List ℕ) → k < 256 → Roomy out → cutInto network sheet k out ≡ given F → Passes F list)
     ↔ (Passes network list × Agrees (networkOf network) (sheetOf sheet) (listed (listOf list)))
 
 -- one cut upon another's record
@@ -27,7 +28,7 @@ cutTwice network first x out second y out′ = andThen (cutInto network first x 
 -- Two well-formed sheets with the same boxes and notes, and a third that keeps two boxes together exactly where both do and that cuts the
 -- network.
 pub record Refined (network X Y Z : List ℕ) : Type 0 where
-  pub bytes : Bytes network × Bytes X × Bytes Y
+  pub bytes : Bytes network × Bytes X × Bytes Y × Bytes Z
   pub first-formed : sheetRefusal X ≡ fine
   pub second-formed : sheetRefusal Y ≡ fine
   pub third : Third (sheetOf X) (sheetOf Y) (sheetOf Z)
