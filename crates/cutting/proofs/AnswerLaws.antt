@@ -33,10 +33,11 @@ use Rattle.reading.specs.Whole.{HouseNetwork, HouseSheet, readNetwork, readShee
 use Rattle.reading.proofs.Lowest.{passed, lowest-rows}
 use Rattle.reading.proofs.Said.{box-id-at}
 use Rattle.cutting.specs.Cutting.{cutSaid, roomFor, recordAnswer, laidAnswer}
-use Rattle.cutting.specs.Parts.{keeps, fragmentIn, Tabled, Entered, Asked}
-use Rattle.cutting.specs.Pieces.{sizeOf}
-use Rattle.cutting.specs.Tables.{boxIn, ownMeets, entered, otherNumber, unclashed, Noted, Numbered, reaches}
-use Rattle.cutting.proofs.RecordLaws.{record-long}
+use Rattle.marking.specs.Parts.{keeps}
+use Rattle.laying.specs.Pieces.{fragmentIn, sizeOf, Tabled}
+use Rattle.cutting.specs.Stages.{Entered, Asked}
+use Rattle.marking.specs.Tables.{boxIn, ownMeets, entered, otherNumber, unclashed, Noted, Numbered, reaches}
+use Rattle.laying.proofs.RecordLaws.{record-long}
 
 -- the counts are small
 module _ (f : Form) (network sheet rows entries numbers parts : List ℕ) (k : ℕ) (t : Tabled f network sheet rows entries numbers parts k) (n : ℕ) where

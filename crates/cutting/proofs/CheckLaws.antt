@@ -25,9 +25,10 @@ use Rattle.records.specs.declared.Check.the-variants.{Fine, Refused}
 use Rattle.records.specs.declared.Form.{Form}
 use Rattle.records.specs.declared.Refusal.{Refusal}
 use Rattle.cutting.specs.Cutting.{cutSaid, cutNetwork, recordAnswer, laidAnswer, cutRecords, cutBuffer}
-use Rattle.cutting.specs.Parts.{keeps, Parted, Tabled}
-use Rattle.cutting.specs.Tables.{Checked, Noted, Numbered, crosses, reaches, Marked}
-use Rattle.cutting.proofs.MarkLaws.{marked-none}
+use Rattle.laying.specs.Pieces.{Tabled}
+use Rattle.marking.specs.Parts.{keeps, Parted}
+use Rattle.marking.specs.Tables.{Checked, Noted, Numbered, crosses, reaches, Marked}
+use Rattle.marking.proofs.MarkLaws.{marked-none}
 
 module _ (network sheet : List ℕ) (k : ℕ) (c : Check) (h : checkNumbers c ≡ networkRefusal network) where
   module _ (r : Refusal) (e : c ≡ Refused r) where

@@ -1,14 +1,4 @@
-pub mod Said
-pub mod TableLaws
-pub mod MarkLaws
-pub mod MarkSaid
-pub mod RowLaws
-pub mod ClashLaws
-pub mod PartLaws
-pub mod StoreLaws
-pub mod RowBytes
-pub mod PutLaws
-pub mod LayLaws
-pub mod RecordLaws
 pub mod AnswerLaws
 pub mod CheckLaws
+pub mod Answers
+pub mod OnBytes

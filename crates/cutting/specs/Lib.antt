@@ -1,6 +1,4 @@
 -- Cutting on bytes: what the cutter answers of a network record and a sheet record, and what it leaves in a lent buffer.
 pub mod Answers
 pub mod Cutting
-pub mod Tables
-pub mod Parts
-pub mod Pieces
+pub mod Stages

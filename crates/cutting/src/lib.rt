@@ -1,10 +1,5 @@
 // Cutting: one fragment of a network, laid down in a lent buffer.
 mod entry;
-mod lay;
-mod marks;
-mod parts;
-mod rows;
-mod tables;
 
 pub use entry::cut;
 use records::Refusal;

@@ -6,4 +6,9 @@ pub mod PlaceLaws
 pub mod WalkLaws
 pub mod SearchLaws
 pub mod EntryLaws
+pub mod NeighbourLaws
+pub mod Neighbours
 pub mod TextLaws
+-- Which verdicts have an answer; the theorems about networks, on bytes.
+pub mod Answers
+pub mod OnBytes

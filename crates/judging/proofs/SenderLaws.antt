@@ -99,7 +99,7 @@ module _ (f : Form) (network list rows places : List ℕ) (h : Ready f network l
   pub sender-there : 1 ≤ m
   sender-there = omega (arith, marked)
 
-  sender-row : m - 1 ≡ rowOf f network id
+  pub sender-row : m - 1 ≡ rowOf f network id
   sender-row = omega (arith, marked)
 
   pub row-there : m - 1 < nodeCount network

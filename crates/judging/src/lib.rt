@@ -1,11 +1,13 @@
 // Judging: the first fault of a proposal by rising id, or a pass; and the line that says it.
 mod at_box;
 mod entry;
+mod lookup;
 mod search;
 mod senders;
 mod text;
 
 pub use entry::judge;
+pub use lookup::neighbour;
 use records::Refusal;
 use routes::Route;
 pub use text::LONGEST;

@@ -2,3 +2,4 @@
 pub mod Parts
 pub mod Whole
 pub mod Largest
+pub mod Refused

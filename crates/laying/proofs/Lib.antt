@@ -1,0 +1,5 @@
+pub mod StoreLaws
+pub mod RowBytes
+pub mod PutLaws
+pub mod LayLaws
+pub mod RecordLaws

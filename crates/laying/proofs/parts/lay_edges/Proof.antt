@@ -1,0 +1,74 @@
+use Rattle.laying.proofs.LayLaws.{edge-fits, laying, offsets}
+use Rattle.lists.specs.Gather.{Laying}
+use Rattle.records.specs.Layout.{edgeOffset}
+use mathlib.Core.Path.{_≡_}
+use Rattle.laying.specs.Pieces.{edgeBytes}
+use Prim.Native.Nat.{_-_}
+use borrow.Author.Needs.{needs}
+use Rattle.laying.proofs.parts.lay_edges.Statement.{statement}
+use Rattle.laying.proofs.parts.lay_edges.Tie as tie
+
+abbrev Inv-loop : tie.InvT-loop
+Inv-loop form network sheet rows entries numbers parts k n out₀ o₀ j₀ at₀ out o j at = (at ≡ edgeOffset form network j) × Laying (edgeBytes form network sheet k) n out₀ out j o
+
+abbrev μ-loop : tie.MeasureT-loop
+μ-loop form network sheet rows entries numbers parts k n out₀ o₀ j₀ at₀ out o j at = n - j
+
+edge-offset-requires : tie.Need-edge-offset-requires Inv-loop μ-loop
+edge-offset-requires c κs = search (needs, laying, offsets)
+
+loop-holds : tie.Need-loop-holds Inv-loop μ-loop
+loop-holds c = (search needs, search laying)
+
+sub-put-edge : tie.Need-sub-put-edge Inv-loop μ-loop
+sub-put-edge c = search (needs, laying, offsets)
+
+part-put-edge-start : tie.Need-part-put-edge-start Inv-loop μ-loop
+part-put-edge-start c = search (needs, laying, offsets)
+
+part-put-edge-end : tie.Need-part-put-edge-end Inv-loop μ-loop
+part-put-edge-end c = search (needs, laying, offsets)
+
+put-edge-requires : tie.Need-put-edge-requires Inv-loop μ-loop
+put-edge-requires c κs = (search needs, search needs, search needs, search edge-fits)
+
+add-o : tie.Need-add-o Inv-loop μ-loop
+add-o c = search (needs, laying, offsets)
+
+add-at : tie.Need-add-at Inv-loop μ-loop
+add-at c = search (needs, laying, offsets)
+
+add-j : tie.Need-add-j Inv-loop μ-loop
+add-j c = search (needs, laying, offsets)
+
+loop-less : tie.Need-loop-less Inv-loop μ-loop
+loop-less c = search (needs, laying, offsets)
+
+loop-again : tie.Need-loop-again Inv-loop μ-loop
+loop-again c = (search offsets, search laying)
+
+same-length : tie.Need-same-length Inv-loop μ-loop
+same-length c = search (needs, laying, offsets)
+
+returns : tie.Need-returns Inv-loop μ-loop
+returns c = search (needs, laying, offsets)
+
+pub lay-edges-spec : {M : Type 1} → statement M
+lay-edges-spec =
+    tie.close
+    (tie.spec
+    Inv-loop
+    μ-loop
+    edge-offset-requires
+    loop-holds
+    sub-put-edge
+    part-put-edge-start
+    part-put-edge-end
+    put-edge-requires
+    add-o
+    add-at
+    add-j
+    loop-less
+    loop-again
+    same-length
+    returns)

@@ -1,0 +1,110 @@
+-- The rows that 19 looks for: own nodes that a cut wire leaves and whose promise is not their note.
+--     mark-zero, mark-one, promise-none, promise-some     a mark and a promise by their bytes
+--     clashing                                            whether a row is such a one
+use Prim.Native.Nat.{ℕ, _+_, _<_}
+use native.Mathlib.Omega.{arith}
+use mathlib.Core.Bool.{Bool, true, false, cond, not, _&&_}
+use mathlib.Core.List.{List}
+use mathlib.Core.Option.{none, some}
+use mathlib.Core.Path.{_≡_, refl, sym, ap, _∙_}
+use lib.Dec.{eqb}
+use lib.ListN.{getD}
+use borrow.Author.Tests.{not-true, not-false}
+use Rattle.lists.specs.Stride.{at}
+use Rattle.routes.specs.Form.{routeAt}
+use Rattle.routes.specs.Order.{same}
+use Rattle.routes.specs.declared.Route.{Route}
+use Rattle.networks.specs.Cut.{leaves, offNote, clashes}
+use Rattle.networks.specs.House.{house}
+use Rattle.networks.specs.Network.{own}
+use Rattle.networks.specs.Sheets.{note}
+use Rattle.records.specs.Layout.{nodeCount, edgeCount, nodeOffset}
+use Rattle.records.specs.Node.{nodeId, isOwn, promising}
+use Rattle.records.specs.declared.Form.{Form}
+use Rattle.reading.specs.Parts.{promiseAt}
+use Rattle.reading.specs.Whole.{readNetwork, readSheet}
+use Rattle.marking.specs.Parts.{noteOffset, noteIn}
+use Rattle.marking.specs.Tables.{Checked, unclashed, Noted, crosses, Marked}
+use Rattle.marking.proofs.Said.{ownIn, meets-own, meets-input}
+use Rattle.marking.proofs.MarkSaid.{leaves-at}
+use Rattle.marking.proofs.RowLaws.{index-small, node-there, promise-there, noted}
+
+-- a mark by its test, and back
+pub mark-zero : (v : ℕ) (t : Bool) → v ≡ cond t 1 0 → v ≡ 0 → t ≡ false
+mark-zero v true e z = absurd (omega arith)
+mark-zero v false e z = refl
+
+pub mark-one : (v : ℕ) (t : Bool) → v ≡ cond t 1 0 → (v ≡ 0 → ⊥) → t ≡ true
+mark-one v true e z = refl
+mark-one v false e z = absurd (z e)
+
+-- a node's promise by its flag
+module _ (w : ℕ) (b : List ℕ) (o : ℕ) (t : Bool) (e : t ≡ promising w b o) where
+  pub promise-none : t ≡ false → promiseAt w b (o + 3 + w) ≡ none
+  unfolding promising promiseAt
+  promise-none y = let z : not (eqb (getD b (o + 3 + w) 0) 0) ≡ false = sym e ∙ y in rw (not-false (eqb (getD b (o + 3 + w) 0) 0) z)
+
+  pub promise-some : t ≡ true → promiseAt w b (o + 3 + w) ≡ some (routeAt w b (o + 4 + w))
+  unfolding promising promiseAt
+  promise-some y =
+      let z : not (eqb (getD b (o + 3 + w) 0) 0) ≡ true = sym e ∙ y in
+      let four : o + 3 + w + 1 ≡ o + 4 + w = omega arith in
+      rw (not-true (eqb (getD b (o + 3 + w) 0) 0) z, four)
+
+module _ (f : Form) (network sheet rows : List ℕ) (c : Checked f network sheet rows) (i : ℕ) (l : i < nodeCount network) where
+  -- an input
+  module _ (own? : Bool) (e : own? ≡ isOwn f network i) (y : not own? ≡ true) where
+    foreign : isOwn f network i ≡ false
+    foreign = sym e ∙ not-true own? y
+
+    pub input-unclashed : true ≡ unclashed f network sheet i
+    unfolding unclashed
+    input-unclashed = rw (meets-input f network i foreign (clashes (house 65535) (readNetwork f network) (readSheet f sheet)))
+
+  -- an own node
+  module _ (own? : Bool) (e : own? ≡ isOwn f network i) (y : not own? ≡ false) where
+    pub ours : isOwn f network i ≡ true
+    ours = sym e ∙ not-false own? y
+
+    clash-own : unclashed f network sheet i ≡ not (leaves (readNetwork f network) (readSheet f sheet) (nodeId f network i) && offNote (house 65535) (ownIn f network i .promise) (note (readSheet f sheet) (nodeId f network i)))
+    unfolding unclashed
+    clash-own = ap not (meets-own f network i ours (clashes (house 65535) (readNetwork f network) (readSheet f sheet)))
+
+    module _ (marks : List ℕ) (m : Marked f network (crosses f network sheet) (edgeCount network) marks) where
+      left? : getD marks i 0 ≡ cond (leaves (readNetwork f network) (readSheet f sheet) (nodeId f network i)) 1 0
+      left? = leaves-at f network sheet rows c i marks l ours m
+
+      stays : getD marks i 0 ≡ 0 → leaves (readNetwork f network) (readSheet f sheet) (nodeId f network i) ≡ false
+      stays z = mark-zero _ _ left? z
+
+      goes : (getD marks i 0 ≡ 0 → ⊥) → leaves (readNetwork f network) (readSheet f sheet) (nodeId f network i) ≡ true
+      goes d = mark-one _ _ left? d
+
+      pub stay-unclashed : getD marks i 0 ≡ 0 → true ≡ unclashed f network sheet i
+      stay-unclashed z = sym (clash-own ∙ rw (stays z))
+
+      module _ (d : getD marks i 0 ≡ 0 → ⊥) (p : Bool) (at : ℕ) (q : at ≡ nodeOffset f network i) (r : p ≡ promising (f .route) network at) where
+        pub silent-unclashed : not p ≡ true → true ≡ unclashed f network sheet i
+        silent-unclashed s =
+            sym (clash-own ∙ rw (goes d, promise-none (f .route) network (nodeOffset f network i) p (r ∙ ap (promising (f .route) network) q) (not-true p s)))
+
+        pub same-unclashed : (entries : List ℕ) (x n : Route) (t : Bool) (o : ℕ) → Noted f network sheet (nodeCount network) entries → not p ≡ false
+            → o ≡ noteOffset f entries i → x ≡ routeAt (f .route) network (at + 4 + f .route) → n ≡ routeAt (f .route) sheet o → t ≡ same x n → t ≡ unclashed f network sheet i
+        unfolding noteIn
+        same-unclashed entries x n t o g s h a b z =
+            sym (clash-own ∙ rw (
+              goes d,
+              promise-some (f .route) network (nodeOffset f network i) p (r ∙ ap (promising (f .route) network) q) (not-false p s),
+              noted f network sheet rows c i l ours entries g,
+              ← q,
+              ← a,
+              ← h,
+              ← b,
+              ← z,
+            ) (twice t))
+          where
+            twice : (t : Bool) → not (not t) ≡ t
+            twice true = refl
+            twice false = refl
+
+pub ruleset clashing = (index-small, node-there, promise-there, ours, input-unclashed, stay-unclashed, silent-unclashed, same-unclashed)

@@ -1,0 +1,46 @@
+use Rattle.marking.proofs.TableLaws.{Entering, entries}
+use Prim.Native.Nat.{_-_}
+use borrow.Author.Needs.{needs}
+use Rattle.marking.proofs.tables.enter.Statement.{statement}
+use Rattle.marking.proofs.tables.enter.Tie as tie
+
+abbrev Inv-loop : tie.InvT-loop
+Inv-loop form network sheet rows entries₀ numbers₀ n i₀ entries numbers i = Entering form network sheet n i entries numbers
+
+abbrev μ-loop : tie.MeasureT-loop
+μ-loop form network sheet rows entries₀ numbers₀ n i₀ entries numbers i = n - i
+
+loop-holds : tie.Need-loop-holds Inv-loop μ-loop
+loop-holds c = search (needs, entries)
+
+enter-row-requires : tie.Need-enter-row-requires Inv-loop μ-loop
+enter-row-requires c κs = search (needs, entries)
+
+returns : tie.Need-returns Inv-loop μ-loop
+returns c = (search (needs, entries), (search (needs, entries), search (needs, entries)))
+
+add-i : tie.Need-add-i Inv-loop μ-loop
+add-i c = search (needs, entries)
+
+loop-less : tie.Need-loop-less Inv-loop μ-loop
+loop-less c = search (needs, entries)
+
+loop-again : tie.Need-loop-again Inv-loop μ-loop
+loop-again c = search (needs, entries)
+
+returns-2 : tie.Need-returns-2 Inv-loop μ-loop
+returns-2 c = (search (needs, entries), (search (needs, entries), search (needs, entries)))
+
+pub enter-spec : {M : Type 1} → statement M
+enter-spec =
+    tie.close
+    (tie.spec
+    Inv-loop
+    μ-loop
+    loop-holds
+    enter-row-requires
+    returns
+    add-i
+    loop-less
+    loop-again
+    returns-2)
