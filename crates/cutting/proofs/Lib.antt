@@ -12,3 +12,4 @@ pub mod LayLaws
 pub mod RecordLaws
 pub mod AnswerLaws
 pub mod CheckLaws
+pub mod TextLaws
