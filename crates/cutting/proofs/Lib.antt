@@ -2,3 +2,4 @@ pub mod AnswerLaws
 pub mod CheckLaws
 pub mod Answers
 pub mod OnBytes
+pub mod TextLaws
