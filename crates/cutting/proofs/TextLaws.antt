@@ -43,7 +43,8 @@ use Rattle.lines.specs.Line.{refusedLine}
 use Rattle.lines.proofs.Answers.{bound-over, bound-kept, bound-short, answer-read}
 use Rattle.lines.proofs.Lengths.{refused-length}
 use Rattle.cutting.specs.Answers.{answerOf}
-use Rattle.cutting.specs.Cutting.{unless, cutSaid, cutNetwork, recordAnswer, cutRecords, laidAnswer, cutBuffer}
+use Rattle.reading.specs.Refused.{unless}
+use Rattle.cutting.specs.Cutting.{cutSaid, cutNetwork, recordAnswer, cutRecords, laidAnswer, cutBuffer}
 use Rattle.cutting.specs.Text.{cutOutput, askedOf, sheetOf, cutBound, cutText}
 use Rattle.cutting.specs.declared.CutAnswer.{CutAnswer}
 use Rattle.cutting.specs.declared.CutAnswer.the-variants.{Done, Refused}
