@@ -1,4 +1,6 @@
--- Cutting on bytes: what the cutter answers of a network record and a sheet record, and what it leaves in a lent buffer.
+-- Cutting on bytes: what the cutter answers of a network record and a sheet record, what it leaves in a lent buffer, and what the
+-- cutting program writes.
 pub mod Answers
 pub mod Cutting
 pub mod Stages
+pub mod Text

@@ -1,8 +1,12 @@
-// Cutting: one fragment of a network, laid down in a lent buffer.
+// Cutting: one fragment of a network, laid down in a lent buffer; and what the cutting program writes.
 mod entry;
+mod text;
 
 pub use entry::cut;
 use records::Refusal;
+pub use text::LARGEST;
+pub use text::LONGEST;
+pub use text::cut_bytes;
 
 // The cutter's answer: the length of the record that stands at the start of the buffer, or a refusal, with the buffer as it was.
 pub enum CutAnswer {

@@ -34,7 +34,8 @@ use Rattle.records.specs.Offsets.{usable1, entry-within, fine-room, node-fields
 use Rattle.records.specs.RowLaws.{row-within, row-found}
 use Rattle.records.specs.declared.Form.{Form}
 use Rattle.reading.specs.Whole.{readNetwork, readList}
-use Rattle.judging.specs.Judging.{highest, unless, judgeAt, judgeRecords}
+use Rattle.reading.specs.Refused.{unless}
+use Rattle.judging.specs.Judging.{highest, judgeAt, judgeRecords}
 use Rattle.judging.specs.Neighbour.{routePart, boxPart, namedPart, neighbourBytes}
 use Rattle.judging.specs.Ready.{enteredAt}
 use Rattle.judging.proofs.EntryLaws.{entry-lacking}

@@ -8,6 +8,7 @@ ghost use lib.ListN.{length};
 ghost use Rattle.lists.specs.Laid.{placed};
 ghost use Rattle.records.specs.Network.{networkRefusal};
 ghost use Rattle.judging.specs.Text.{judgeText};
+ghost use Rattle.cutting.specs.Text.{cutText};
 use records::Check;
 use records::check_network;
 use records::number_of;
@@ -31,4 +32,14 @@ pub extern "C" fn lnianotka_judge(input: &[u8], out: &mut [u8]) -> usize
     ensures text { λ _. ⌜ now (out .exit) ≡ placed (judgeText (now (input .entry))) (now (out .entry)) ⌝ }
 {
     judging::judge_bytes(input, out)
+}
+
+// What the cutting program writes when it reads these bytes: its length, and the bytes themselves at the start of out where
+// they fit.
+#[no_mangle]
+pub extern "C" fn lnianotka_cut(input: &[u8], out: &mut [u8]) -> usize
+    ensures count { λ r. ⌜ r ≡ length (cutText (now (input .entry))) ⌝ }
+    ensures text { λ _. ⌜ now (out .exit) ≡ placed (cutText (now (input .entry))) (now (out .entry)) ⌝ }
+{
+    cutting::cut_bytes(input, out)
 }

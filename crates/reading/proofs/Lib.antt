@@ -6,6 +6,7 @@ pub mod RowCodecs
 pub mod Joins
 pub mod Said
 pub mod NetworkBytes
+pub mod Lengths
 pub mod ReadSound
 pub mod WrittenFine
 pub mod EntryBytes

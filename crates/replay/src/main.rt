@@ -28,7 +28,11 @@ fn cut_within(network: &[u8], sheet: &[u8], k: u8, out: &mut [u8], room: usize) 
 {
     match cut(network, sheet, k, &mut out[0..room]) {
         CutAnswer::Done(length) => length,
-        CutAnswer::Refused(refusal) => put_refused(wide(number_of(refusal)), place_of(refusal), out),
+        CutAnswer::Refused(refusal) => put_refused(
+            wide(number_of(refusal)),
+            place_of(refusal),
+            out,
+        ),
     }
 }
 
@@ -84,7 +88,18 @@ fn write_answer(call: u8, input: &[u8]) -> bool {
     io::write_all(STDOUT_FILENO, &out[0..length])
 }
 
-// Reads a case and writes its answer. Answers whether there was one: a case that is cut short has none.
+// Reads the input of a case to the end of room and writes the answer. Answers whether that was done: a case that is cut short
+// has no answer.
+fn answer_input(call: u8, room: &mut [u8]) -> bool {
+    let length = room.len();
+    let got = io::read_full(STDIN_FILENO, room);
+    if got < length {
+        return false;
+    }
+    write_answer(call, &room[0..got])
+}
+
+// Reads a case and writes its answer. Answers whether there was one.
 fn answer_next() -> bool {
     let mut head = [0u8; 5];
     if io::read_full(STDIN_FILENO, &mut head) < 5 {
@@ -95,10 +110,7 @@ fn answer_next() -> bool {
         return false;
     }
     let mut room = [0u8; 65536];
-    if io::read_full(STDIN_FILENO, &mut room[0..length]) < length {
-        return false;
-    }
-    write_answer(head[0], &room[0..length])
+    answer_input(head[0], &mut room[0..length])
 }
 
 // A proved loop has to end, and nothing says that a stream does: the turns are counted down from a number that no run uses up.
