@@ -22,16 +22,24 @@ use crate::senders::offer;
 use numbers::u16_at;
 use records::Form;
 use records::edge_offset;
-use records::entry_of;
+use records::entry_near;
 use records::is_own;
 use records::node_id;
+use records::row_behind;
 use records::wide16;
 use routes::Route;
 use routes::better;
 
-// Stores the row of the entry of the node in a row in places, where it is an own one with an entry. Answers whether it is
-// no own one, or has an entry.
-fn place_entry(form: Form, network: &[u8], list: &[u8], places: &mut [u16; 1024], i: usize) -> bool
+// Stores the row of the entry of the node in a row in places, where it is an own one with an entry, which is looked for first
+// in the row near. Answers whether it is no own one, or has an entry.
+fn place_entry(
+    form: Form,
+    network: &[u8],
+    list: &[u8],
+    places: &mut [u16; 1024],
+    i: usize,
+    near: usize,
+) -> bool
     requires { ⌜ Room form (now network) × (i < nodeCount (now network)) × EntriesRoom form listLead (now list) × Rising (entryId form listLead (now list)) (entryCount (now list)) × (length (now places) ≡ 1024) ⌝ }
     ensures entered { λ r. ⌜ r ≡ enteredAt form (now (network .entry)) (now (list .entry)) i ⌝ }
     ensures table { λ _. ⌜ now (places .exit) ≡ withEntry form (now (network .entry)) (now (list .entry)) i (now (places .entry)) ⌝ }
@@ -39,7 +47,7 @@ fn place_entry(form: Form, network: &[u8], list: &[u8], places: &mut [u16; 1024]
     if !is_own(form, network, i) {
         return true;
     }
-    let row = entry_of(form, 2, list, node_id(form, network, i));
+    let row = entry_near(form, 2, list, near, node_id(form, network, i));
     if wide16(u16_at(list, 5)) <= row {
         return false;
     }
@@ -57,10 +65,12 @@ pub fn place_entries(form: Form, network: &[u8], list: &[u8], places: &mut [u16;
 {
     let n = wide16(u16_at(network, 5));
     let mut i = 0;
+    let mut near = 0;
     while i < n {
-        if !place_entry(form, network, list, places, i) {
+        if !place_entry(form, network, list, places, i, near) {
             return i;
         }
+        near = row_behind(near, places[i]);
         i += 1;
     }
     i

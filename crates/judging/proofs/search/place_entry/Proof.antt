@@ -13,8 +13,8 @@ returns c = search (needs, placing-one)
 node-id-requires : tie.Need-node-id-requires
 node-id-requires c κs = search (needs, placing-one)
 
-entry-of-requires : tie.Need-entry-of-requires
-entry-of-requires c κs = search (needs, placing-one)
+entry-near-requires : tie.Need-entry-near-requires
+entry-near-requires c κs = search (needs, placing-one)
 
 u16-at-requires : tie.Need-u16-at-requires
 u16-at-requires c κs = search (needs, placing-one)
@@ -44,7 +44,7 @@ place-entry-spec =
     is-own-requires
     returns
     node-id-requires
-    entry-of-requires
+    entry-near-requires
     u16-at-requires
     wide16-requires
     returns-2
