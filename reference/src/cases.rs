@@ -1,7 +1,8 @@
 //! The stored cases: a stream of inputs, always the same, and the answers to them.
 //!
-//! A case is one byte (0 judge, 1 cut), the input's length as u32 and the input; its answer is
-//! the output's length as u32 and the output. All numbers are big-endian.
+//! A case is one byte (0 judge, 1 cut, 2 cut into a buffer of a given length), the input's length
+//! as u32 and the input; its answer is the output's length as u32 and the output. All numbers are
+//! big-endian.
 
 use crate::damage::{self, Call, Input};
 use crate::known;
@@ -11,17 +12,18 @@ use crate::random::Random;
 use std::collections::BTreeMap;
 use std::fmt;
 
+pub mod examples;
 pub mod inputs;
 
 const SEED: u64 = 0x6b69_7269_6761_6d69;
 
-/// The cases so far, and how often each kind of answer was given to each of the two calls.
+/// The cases so far, and how often each kind of answer was given to each of the calls.
 #[derive(Default)]
 pub struct Stream {
     pub inputs: Vec<u8>,
     pub answers: Vec<u8>,
     pub cases: usize,
-    pub tally: BTreeMap<String, [usize; 2]>,
+    pub tally: BTreeMap<String, [usize; 3]>,
 }
 
 impl Stream {
@@ -57,9 +59,9 @@ fn kind_of(answer: &[u8]) -> String {
 
 impl fmt::Display for Stream {
     fn fmt(&self, out: &mut fmt::Formatter) -> fmt::Result {
-        writeln!(out, "answer       judge    cut")?;
-        for (kind, [judge, cut]) in &self.tally {
-            writeln!(out, "{kind:<10} {judge:>7} {cut:>6}")?;
+        writeln!(out, "answer       judge    cut   lent")?;
+        for (kind, [judge, cut, lent]) in &self.tally {
+            writeln!(out, "{kind:<10} {judge:>7} {cut:>6} {lent:>6}")?;
         }
         let bytes = self.inputs.len() + self.answers.len();
         write!(out, "{} cases, {bytes} bytes", self.cases)
@@ -70,7 +72,7 @@ impl fmt::Display for Stream {
 type Group = (fn(&mut Stream, &mut Random), usize);
 
 /// Each group has numbers of its own, so that a change to one leaves the others as they are.
-const GROUPS: [Group; 11] = [
+const GROUPS: [Group; 13] = [
     (known_plans, 1),
     (odd_frames, 1),
     (judged, 1_000),
@@ -82,6 +84,8 @@ const GROUPS: [Group; 11] = [
     (middling, 110),
     (largest, 1),
     (over_size, 1),
+    (lent, 300),
+    (example_plans, 1),
 ];
 
 /// All cases.
@@ -229,6 +233,36 @@ fn over_size(stream: &mut Stream, random: &mut Random) {
     }
 }
 
+/// Cuts into a buffer that has just room for the fragment, or not, or more; some networks have
+/// bytes behind their total.
+fn lent(stream: &mut Stream, random: &mut Random) {
+    let scene = inputs::small(random);
+    let input = inputs::cut(scene, random);
+    let needed = input.answer().len();
+    let rooms = [needed, needed, needed - 1, needed - 1, needed / 2, 0, 400];
+    let room = *random.pick(&rooms) as u16;
+    let mut network = input.network;
+    if random.one_in(6) {
+        network.extend(vec![0; random.within(1, 9)]);
+    }
+    let length = network.len() as u16;
+    let parts = [&room.to_be_bytes()[..], &length.to_be_bytes(), &network];
+    let plan = Input {
+        network: parts.concat(),
+        ..input
+    };
+    stream.add(Call::Lent, &plan.bytes());
+}
+
+/// The example plans next to this package, by name.
+fn example_plans(stream: &mut Stream, _: &mut Random) {
+    let mut plans: Vec<_> = examples::plans().collect();
+    plans.sort_unstable_by(|one, other| one.0.cmp(&other.0));
+    for (_, call, input) in plans {
+        stream.add(call, &input);
+    }
+}
+
 /// Answers a stream of cases. What is left of a case that is cut short has no answer.
 pub fn replay(mut stream: &[u8]) -> Vec<u8> {
     let mut answers = Vec::new();
@@ -239,7 +273,8 @@ pub fn replay(mut stream: &[u8]) -> Vec<u8> {
         };
         let call = match call {
             0 => Call::Judge,
-            _ => Call::Cut,
+            1 => Call::Cut,
+            _ => Call::Lent,
         };
         lay_answer(&mut answers, &call.answer(input));
         stream = rest;

@@ -9,11 +9,12 @@ mod entries;
 mod layout;
 mod network;
 
-/// The two programs.
+/// The two programs, and cutting into a buffer of a given length.
 #[derive(Clone, Copy, Debug, PartialEq, Eq)]
 pub enum Call {
     Judge,
     Cut,
+    Lent,
 }
 
 /// An input by its parts; only the cutter's has a fragment asked.
@@ -30,6 +31,7 @@ impl Call {
         match self {
             Call::Judge => program::judge_bytes(input),
             Call::Cut => program::cut_bytes(input),
+            Call::Lent => program::lent_bytes(input),
         }
     }
 }
@@ -66,7 +68,7 @@ impl Input {
     fn entry(&self) -> usize {
         match self.call {
             Call::Judge => LIST_ENTRY,
-            Call::Cut => SHEET_ENTRY,
+            Call::Cut | Call::Lent => SHEET_ENTRY,
         }
     }
 }

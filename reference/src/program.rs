@@ -37,12 +37,17 @@ pub fn cut_bytes(input: &[u8]) -> Vec<u8> {
         return refused_line(over_size(CUT_BOUND));
     }
     let (network, rest) = split(input);
+    // A fragment is never larger than its network.
+    cut_parts(network, rest, network.len())
+}
+
+/// The fragment, or a line. What follows the network is the fragment asked, and then the sheet.
+fn cut_parts(network: &[u8], rest: &[u8], room: usize) -> Vec<u8> {
     let (asked, sheet) = match rest {
         [] => (0, rest),
         [asked, sheet @ ..] => (*asked, sheet),
     };
-    // A fragment is never larger than its network.
-    let mut out = vec![0; network.len()];
+    let mut out = vec![0; room];
     match cut::cut(network, sheet, asked, &mut out) {
         Ok(length) => {
             out.truncate(length);
@@ -50,6 +55,19 @@ pub fn cut_bytes(input: &[u8]) -> Vec<u8> {
         }
         Err(refusal) => refused_line(refusal),
     }
+}
+
+/// Cutting out of records that are handed over apart, into a buffer of a given length: the
+/// numbers 5 and 20, which the program has no use for, can be met here. Two bytes say how long the
+/// buffer is, two how long the network is; then comes the cutter's input.
+pub fn lent_bytes(input: &[u8]) -> Vec<u8> {
+    let Some((&[r1, r0, n1, n0], plan)) = input.split_first_chunk() else {
+        return Vec::new();
+    };
+    let room = usize::from(u16::from_be_bytes([r1, r0]));
+    let length = usize::from(u16::from_be_bytes([n1, n0])).min(plan.len());
+    let (network, rest) = plan.split_at(length);
+    cut_parts(network, rest, room)
 }
 
 /// Parts the network from what follows. Where the length field is missing or points past the

@@ -6,6 +6,8 @@ use reference::known;
 use reference::plan::{list_record, sheet_record, Node};
 use reference::random::Random;
 use reference::record::LARGEST_NETWORK;
+use std::fs;
+use std::path::Path;
 
 #[test]
 fn enough_of_each_kind() {
@@ -20,6 +22,9 @@ fn enough_of_each_kind() {
         assert!(given(kind, Call::Judge) >= 200, "{kind}");
     }
     assert!(given("fragment", Call::Cut) >= 500);
+    for (kind, least) in [("fragment", 50), ("refused  5", 20), ("refused 20", 50)] {
+        assert!(given(kind, Call::Lent) >= least, "{kind}");
+    }
     for number in 1..=19 {
         let kind = format!("refused {number:>2}");
         let (judge, cut) = (given(&kind, Call::Judge), given(&kind, Call::Cut));
@@ -43,6 +48,20 @@ fn at_least_twenty_of_the_largest_size() {
         rest = others;
     }
     assert!(largest >= 20, "{largest}");
+}
+
+/// The replay program's files, which the gate runs it on and holds it to.
+#[test]
+fn stored_files_are_those_made_today() {
+    let directory = Path::new(env!("CARGO_MANIFEST_DIR")).join("../crates/replay");
+    let stream = cases::make();
+    for (name, made) in [("stdin", stream.inputs), ("stdout", stream.answers)] {
+        let stored = fs::read(directory.join(name)).expect(name);
+        assert!(
+            stored == made,
+            "{name} is not what `reference cases` writes"
+        );
+    }
 }
 
 #[test]

@@ -1,2 +1,4 @@
 pub mod AnswerLaws
 pub mod CheckLaws
+pub mod Answers
+pub mod OnBytes

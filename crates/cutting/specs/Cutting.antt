@@ -3,7 +3,7 @@
 use Prim.Native.Nat.{ℕ}
 use mathlib.Core.Bool.{cond}
 use mathlib.Core.List.{List}
-use lib.Dec.{eqb, leb}
+use lib.Dec.{leb}
 use lib.ListN.{length}
 use Rattle.lists.specs.Laid.{placed}
 use Rattle.networks.specs.Answer.{Answer, given, refused, andThen}
@@ -12,13 +12,9 @@ use Rattle.networks.specs.Cut.{cut}
 use Rattle.records.specs.Entries.{sheetRefusal}
 use Rattle.records.specs.Form.{version1}
 use Rattle.records.specs.Network.{networkRefusal}
-use Rattle.records.specs.Numbers.{Numbers}
 use Rattle.records.specs.declared.Form.{Form}
+use Rattle.reading.specs.Refused.{unless}
 use Rattle.reading.specs.Whole.{HouseNetwork, readNetwork, readSheet, writeNetwork}
-
--- the answer, unless something is refused
-abbrev pub unless : {A : Type 0} → Numbers → Answer A → Answer A
-unless n a = cond (eqb (n .number) 0) a (refused (n .number) (n .place))
 
 -- The fragment of what the two records say. No law of routes is used in it but their equality, so that the highest cost does not matter.
 unfoldable pub cutSaid : Form → List ℕ → List ℕ → ℕ → Answer HouseNetwork

@@ -1,4 +1,4 @@
--- What the two records say at the places that the search looks at.
+-- What the two records say at the places that the search looks at, and what the program prints.
 pub mod Said
 pub mod SenderLaws
 pub mod BoxLaws
@@ -8,3 +8,7 @@ pub mod SearchLaws
 pub mod EntryLaws
 pub mod NeighbourLaws
 pub mod Neighbours
+pub mod TextLaws
+-- Which verdicts have an answer; the theorems about networks, on bytes.
+pub mod Answers
+pub mod OnBytes

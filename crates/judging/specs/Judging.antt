@@ -1,23 +1,17 @@
 -- Judging two records (document 01, 'Judging'): the network's refusals, the list's, and then the judge's answer on what they say.
 use Prim.Native.Nat.{ℕ}
-use mathlib.Core.Bool.{cond}
 use mathlib.Core.List.{List}
-use lib.Dec.{eqb}
 use Rattle.routes.specs.declared.Route.{Route}
-use Rattle.networks.specs.Answer.{Answer, given, refused}
+use Rattle.networks.specs.Answer.{Answer, given}
 use Rattle.networks.specs.House.{house}
 use Rattle.networks.specs.Judge.{Verdict, verdictFrom, judge}
 use Rattle.networks.specs.Network.{ownBoxes}
 use Rattle.records.specs.Entries.{listRefusal}
 use Rattle.records.specs.Form.{version1}
 use Rattle.records.specs.Network.{networkRefusal}
-use Rattle.records.specs.Numbers.{Numbers}
+use Rattle.reading.specs.Refused.{unless}
 use Rattle.reading.specs.Whole.{readNetwork, readList}
 use Rattle.records.specs.declared.Form.{Form}
-
--- the answer, unless something is refused
-abbrev pub unless : {A : Type 0} → Numbers → Answer A → Answer A
-unless n a = cond (eqb (n .number) 0) a (refused (n .number) (n .place))
 
 -- the highest cost that a wire may give
 abbrev pub highest : ℕ

@@ -1,7 +1,8 @@
--- Judging on bytes: what the judge answers of a network record and a route list record.
+-- Judging on bytes: what the judge answers of a network record and a route list record, and what the judging program prints.
 pub mod Answers
 pub mod Judging
 pub mod Neighbour
+pub mod Text
 pub mod Offer
 pub mod Ready
 pub mod Walk

@@ -1,14 +1,17 @@
-// Judging: the first fault of a proposal by rising id, or a pass.
+// Judging: the first fault of a proposal by rising id, or a pass; and the line that says it.
 mod at_box;
 mod entry;
 mod lookup;
 mod search;
 mod senders;
+mod text;
 
 pub use entry::judge;
 pub use lookup::neighbour;
 use records::Refusal;
 use routes::Route;
+pub use text::LONGEST;
+pub use text::judge_bytes;
 
 // What is named of a box with a fault: the judged count includes it.
 pub struct Finding {

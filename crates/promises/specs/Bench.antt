@@ -1,15 +1,38 @@
 -- The bench examples of document 01 that are marked P: one table, one statement.
--- Each row has an answer of the definitions, as numbers, and the numbers that it must be.
+-- Each row has an answer of the definitions, as numbers or as the line that a program prints, and what it must be.
 use mathlib.Core.Path.{_≡_, refl}
-use mathlib.Core.Bool.{false}
-use mathlib.Core.List.{List, [], _∷_, map}
+use mathlib.Core.List.{List, [], _∷_, map, filterMap}
 use Prim.Native.Nat.{ℕ}
 use Rattle.lists.specs.Best.{best}
-use Rattle.routes.specs.Order.{beats}
+use Rattle.lists.specs.First.{firstBad, every}
+use Rattle.lists.specs.Rising.{least, place}
+use Rattle.lists.specs.Stride.{at}
+use Rattle.numbers.specs.BigEndian.{u16At, u32At, u16Bytes, u32Bytes}
+use Rattle.numbers.specs.Decimal.{decimal, places}
 use Rattle.routes.specs.Carry.{carried, lacks, barred, dear, newTags, crossed}
+use Rattle.routes.specs.Demand.{meets}
+use Rattle.routes.specs.Form.{zeros, fieldsAt, fieldsBytes, routeAt, routeBytes, routeFormed, policyAt, policyBytes, policyFormed}
+use Rattle.routes.specs.Order.{beats, same}
 use Rattle.routes.specs.declared.Policy.{Policy}
 use Rattle.routes.specs.declared.Route.{Route}
 use Rattle.routes.specs.declared.Route.the-variants.{None, Held}
+use Rattle.networks.specs.Answer.{Answer, given, refused}
+use Rattle.networks.specs.Cut.{leaves, feeds, fragmentOf, cut}
+use Rattle.networks.specs.Judge.{Verdict, pass, found, fault, verdictFrom, judge}
+use Rattle.networks.specs.Sheets.{number, note, listed}
+use Rattle.networks.specs.Solution.{due, mapping}
+use Rattle.records.specs.Edge.{edgeTo, edgeFrom, edgeKey, boxed, owned, endsFormed, edgeFormed, edgeOk, leftBy, inputOk}
+use Rattle.records.specs.Entries.{entryOffset, entryId, fragmentFormed, entryFormed, entryOk, entriesRefusal}
+use Rattle.records.specs.Form.{nodeWidth, entryWidth}
+use Rattle.records.specs.Layout.{policyOffset, nodeOffset, edgeOffset}
+use Rattle.records.specs.Network.{policyOk, manyParts, networkRefusal}
+use Rattle.records.specs.Node.{kindFormed, promiseFormed, demandFormed, nodeFormed, nodeId, nodeOk, isOwn, ownless, rowOf}
+use Rattle.reading.specs.Parts.{demandAt, demandBytes, promiseAt, promiseBytes, boxAt, boxBytes, wireAt, wireBytes, sheetEntryAt, sheetEntryBytes, listEntryAt, listEntryBytes}
+use Rattle.reading.specs.Whole.{readNetwork, writeNetwork, readSheet, writeSheet, readList, writeList}
+use Rattle.lines.specs.Line.{text, line, routeWords, passLine, refusedLine, foundLine}
+use Rattle.judging.specs.Judging.{judgeAt, judgeRecords}
+use Rattle.cutting.specs.Cutting.{cutSaid, cutNetwork, cutRecords}
+use Rattle.promises.specs.BenchNetworks.{held, adds, masks, chainRecord, twoAnswers, listing, splitting}
 
 pub record Example : Type 0 where
   pub answer : List ℕ
@@ -18,24 +41,33 @@ pub record Example : Type 0 where
 abbrev is : List ℕ → List ℕ → Example
 is a e = record { answer = a; expected = e }
 
--- a route (preference, cost, origin, tags), and its numbers: none has none
-abbrev held : ℕ → ℕ → ℕ → ℕ → Route
-held p c o t = Held (record { preference = p; cost = c; origin = o; tags = t })
-
+-- a route's numbers: none has none
 abbrev shown : Route → List ℕ
 shown None = []
 shown (Held f) = f .preference ∷ f .cost ∷ f .origin ∷ f .tags ∷ []
 
--- policies that only add to the cost, or only have masks (need, bar, clear, set)
-abbrev adds : ℕ → Policy
-adds n = record { need = 0; bar = 0; clear = 0; set = 0; flag = false; preference = 0; added = n }
-
-abbrev masks : ℕ → ℕ → ℕ → ℕ → Policy
-masks n b c s = record { need = n; bar = b; clear = c; set = s; flag = false; preference = 0; added = 0 }
-
 -- a route over a wire that may give costs up to 65,535
 abbrev over : Policy → Route → List ℕ
 over p r = shown (carried 65535 p r)
+
+-- the line that the judge prints
+abbrev lineOf : Answer (Verdict Route) → List ℕ
+lineOf (given (pass count)) = passLine count
+lineOf (given (found number node route count)) = foundLine number node count route
+lineOf (refused number place) = refusedLine number place
+
+-- the judge's line on two records
+abbrev judging : List ℕ → List ℕ → List ℕ
+judging network list = lineOf (judgeRecords network list)
+
+-- what a cut answers: a length, or a number and a place
+abbrev sizeOf : Answer ℕ → List ℕ
+sizeOf (given length) = length ∷ []
+sizeOf (refused number place) = number ∷ place ∷ []
+
+-- fragment 1 of the chain, box 3, into a buffer of this length
+abbrev cutting : ℕ → List ℕ
+cutting room = sizeOf (cutRecords (chainRecord (held 100 0 1 0) 2) (splitting (held 100 0 1 0) (held 100 1 1 0) (held 100 2 1 0)) 1 room)
 
 abbrev pub bench : List Example
 bench =
@@ -50,9 +82,21 @@ bench =
     is (over (masks 0 0 3 1) (held 100 5 1 7)) (100 ∷ 5 ∷ 1 ∷ 5 ∷ []) ∷
     is (over (masks 6 0 0 0) (held 100 5 1 5)) [] ∷
     is (over (masks 0 6 0 0) (held 100 5 1 4)) [] ∷
+    -- the chain with costs 0, 1, 2, and with ceiling 1; no route anywhere; without box 1's start
+    is (judging (chainRecord (held 100 0 1 0) 2) (listing (held 100 0 1 0) (held 100 1 1 0) (held 100 2 1 0))) (text "pass 3\n") ∷
+    is (judging (chainRecord (held 100 0 1 0) 1) (listing (held 100 0 1 0) (held 100 1 1 0) (held 100 2 1 0))) (text "found 33 3 3 100 2 1 0\n") ∷
+    is (judging (chainRecord (held 100 0 1 0) 2) (listing None None None)) (text "found 31 1 1 100 0 1 0\n") ∷
+    is (judging (chainRecord None 2) (listing None None None)) (text "found 33 3 3 none\n") ∷
+    -- its cut 1, 2 | 3 into a buffer of 81 and of 82
+    is (cutting 81) (20 ∷ 82 ∷ []) ∷
+    is (cutting 82) (82 ∷ []) ∷
+    -- two answers: one, its mirror, and both boxes at the lesser route
+    is (judging twoAnswers (listing (held 100 0 1 0) (held 100 1 1 0) (held 200 2 1 1))) (text "pass 3\n") ∷
+    is (judging twoAnswers (listing (held 100 0 1 0) (held 200 2 1 1) (held 100 1 1 0))) (text "pass 3\n") ∷
+    is (judging twoAnswers (listing (held 100 0 1 0) (held 100 1 1 0) (held 100 1 1 0))) (text "found 31 2 2 200 2 1 1\n") ∷
     []
 
 -- every answer is the expected one
 pub bench-holds : map (λ (x : Example). x .answer) bench ≡ map (λ (x : Example). x .expected) bench
-unfolding beats carried lacks barred dear newTags crossed
+unfolding beats carried lacks barred dear newTags crossed same meets zeros fieldsAt fieldsBytes routeAt routeBytes routeFormed policyAt policyBytes policyFormed firstBad every least place at u16At u32At u16Bytes u32Bytes decimal places leaves feeds fragmentOf cut fault verdictFrom judge number note listed due mapping edgeTo edgeFrom edgeKey boxed owned endsFormed edgeFormed edgeOk leftBy inputOk entryOffset entryId fragmentFormed entryFormed entryOk entriesRefusal nodeWidth entryWidth policyOffset nodeOffset edgeOffset policyOk manyParts networkRefusal kindFormed promiseFormed demandFormed nodeFormed nodeId nodeOk isOwn ownless rowOf demandAt demandBytes promiseAt promiseBytes boxAt boxBytes wireAt wireBytes sheetEntryAt sheetEntryBytes listEntryAt listEntryBytes readNetwork writeNetwork readSheet writeSheet readList writeList line routeWords passLine foundLine judgeAt judgeRecords cutSaid cutNetwork cutRecords filterMap
 bench-holds = refl

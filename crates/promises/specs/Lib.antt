@@ -1,3 +1,9 @@
--- What the suite promises.
+-- What the suite promises: each statement under the demand's sentence. The proofs are in proofs/, file by file.
+pub mod Calls
+pub mod Demand1
+pub mod Demand2
+pub mod Demand3
+pub mod SameAnswer
 pub mod Determined
+pub mod BenchNetworks
 pub mod Bench

@@ -10,5 +10,7 @@ pub mod ReadSound
 pub mod WrittenFine
 pub mod EntryBytes
 pub mod EntryKinds
+pub mod Fits
+pub mod Refused
 pub mod Bridges
 pub mod Lowest

@@ -80,6 +80,22 @@ module _ (f : Form) (enough : 9 ≤ f .route) where
     length-boxes : length (boxPart N) ≡ length (N .boxes) * (9 + f .route + f .route)
     length-boxes = length-laidRows (9 + f .route + f .route) (boxBytes (f .route)) (box (f .route) enough .size) (N .boxes)
 
+    pub length-wires : length (wirePart N) ≡ length (N .wires) * 5
+    length-wires = length-laidRows 5 wireBytes (wire .size) (N .wires)
+
+    abbrev pub parts-length : ℕ
+    parts-length = length (policyPart N) + length (boxPart N) + length (wirePart N)
+
+    pub length-parts : length (policyPart N ++ (boxPart N ++ wirePart N)) ≡ parts-length
+    length-parts = length-append (policyPart N) _ ∙ ap (_+_ (length (policyPart N))) (length-append (boxPart N) (wirePart N)) ∙ omega arith
+
+    pub length-written : length W ≡ 10 + parts-length
+    length-written = ap length written ∙ (let e = length-parts in omega arith)
+
+    -- the parts by their counts
+    pub parts-counted : parts-length ≡ length (N .policies) * 13 + length (N .boxes) * (9 + f .route + f .route) + length (N .wires) * 5
+    parts-counted = rw (length-policies, length-boxes, length-wires)
+
     pub node-part : nodePart W ≡ 10 + length (policyPart N)
     unfolding policyOffset at
     node-part = rw (policy-count, length-policies) (omega arith)

@@ -1,7 +1,7 @@
 -- A sound network whose numbers fit, written, is a record of which none of 1 to 10 is refused.
 --     sound-fine       bytes that are formed and say a sound network
 --     written-fine     the bytes that are written of one
-use mathlib.Core.Path.{_≡_, refl, sym, ap, _∙_, subst}
+use mathlib.Core.Path.{_≡_, refl, sym, _∙_, subst}
 use mathlib.Core.Bool.{Bool, true, false, not, _||_}
 use mathlib.Core.List.{List, [], _∷_, _++_}
 use mathlib.Core.Option.{some}
@@ -9,14 +9,14 @@ use Prim.Native.Nat.{ℕ, suc, _+_, _*_, _≤_, _<_}
 use native.Mathlib.Nat.{mul-le-mul}
 use native.Mathlib.Omega.{arith}
 use lib.Dec.{eqb}
-use lib.ListN.{length, getD, length-append}
+use lib.ListN.{length, getD}
 use borrow.Author.Tests.{le-leb, ne-eqb, not-true}
 use Rattle.lists.specs.All.{All, any, all-append}
 use Rattle.lists.specs.Codec.{Bytes, rows-small, rows-made, small-bytes}
 use Rattle.lists.specs.Filter.{filterMap-all}
 use Rattle.lists.specs.First.{every}
 use Rattle.lists.specs.Rising.{least-ext}
-use Rattle.lists.specs.Rows.{length-rows, rows-all, length-laidRows}
+use Rattle.lists.specs.Rows.{length-rows, rows-all}
 use Rattle.lists.specs.Stride.{at}
 use Rattle.lists.specs.Table.{rows-rise}
 use Rattle.lists.specs.Test.{and-i}
@@ -39,7 +39,7 @@ use Rattle.reading.proofs.BoxCodec.{box}
 use Rattle.reading.proofs.RowCodecs.{wire}
 use Rattle.reading.proofs.Said.{read-ids, read-keys, owns-read, has-box-read, own-read, sends-read, Edge, parts-edge}
 use Rattle.reading.proofs.ReadSound.{some-own-boxes}
-use Rattle.reading.proofs.NetworkBytes.{NetworkFits, policyPart, boxPart, wirePart, head, written, node-count, edge-count, policy-count, node-part, edge-part, read-written}
+use Rattle.reading.proofs.NetworkBytes.{NetworkFits, policyPart, boxPart, wirePart, head, written, node-count, edge-count, policy-count, node-part, edge-part, length-wires, parts-length, length-parts, length-written, parts-counted, read-written}
 
 length-any : {A : Type 0} (xs : List A) → 0 < length xs → any (λ (x : A). true) xs ≡ true
 length-any [] h = absurd (omega arith)
@@ -138,19 +138,10 @@ module _ (f : Form) (usable : Usable f) (N : HouseNetwork) (sound : Sound (bound
   abbrev said : ℕ
   said = suc (suc (suc (suc (suc (length (policyPart f enough N ++ (boxPart f enough N ++ wirePart f enough N))))))) + 1
 
-  abbrev parts-length : ℕ
-  parts-length = length (policyPart f enough N) + length (boxPart f enough N) + length (wirePart f enough N)
-
-  length-parts : length (policyPart f enough N ++ (boxPart f enough N ++ wirePart f enough N)) ≡ parts-length
-  length-parts = length-append (policyPart f enough N) _ ∙ ap (_+_ (length (policyPart f enough N))) (length-append (boxPart f enough N) (wirePart f enough N)) ∙ omega arith
-
-  length-written : length W ≡ 10 + parts-length
-  length-written = ap length (written f enough N) ∙ (let e = length-parts in omega arith)
-
-  total-written : total f W ≡ 10 + parts-length
+  total-written : total f W ≡ 10 + parts-length f enough N
   unfolding edgeOffset at
   total-written =
-      let wires : length (wirePart f enough N) ≡ length (N .wires) * 5 = length-laidRows 5 _ (wire .size) (N .wires) in
+      let wires = length-wires f enough N in
       rw (edge-part f enough N, edge-count f enough N) (omega arith)
 
   said-written : u32At W 0 ≡ said
@@ -159,23 +150,21 @@ module _ (f : Form) (usable : Usable f) (N : HouseNetwork) (sound : Sound (bound
 
   framed : Framed f W
   framed = record {
-    long = let e = length-written in omega arith;
+    long = let e = length-written f enough N in omega arith;
     version = rw (written f enough N) refl;
-    said = let e = said-written in let g = total-written in let h = length-parts in omega arith;
-    whole = total-written ∙ sym length-written;
+    said = let e = said-written in let g = total-written in let h = length-parts f enough N in omega arith;
+    whole = total-written ∙ sym (length-written f enough N);
   }
 
   -- the record is far shorter than its length field could say
   short : said < 65536 * 65536
   short =
-      let policies : length (policyPart f enough N) ≡ length (N .policies) * 13 = length-laidRows 13 _ (policy .size) (N .policies) in
-      let boxes : length (boxPart f enough N) ≡ length (N .boxes) * (9 + f .route + f .route) = length-laidRows _ _ (box (f .route) enough .size) (N .boxes) in
-      let wires : length (wirePart f enough N) ≡ length (N .wires) * 5 = length-laidRows 5 _ (wire .size) (N .wires) in
       let narrow = usable .narrow in
       let few = usable .few in
       let most : length (N .boxes) ≤ 1024 = let h = sound .boxes-within in omega arith in
       let area = mul-le-mul most (let h = narrow in row h) in
-      let e = length-parts in
+      let e = length-parts f enough N in
+      let c = parts-counted f enough N in
       omega (arith, sound .wires-within, sound .policies-within)
     where
       row : f .route ≤ 16 → 9 + f .route + f .route ≤ 41
@@ -190,7 +179,8 @@ module _ (f : Form) (usable : Usable f) (N : HouseNetwork) (sound : Sound (bound
       let p = sound .policies-within in
       (omega arith, (omega arith, (omega arith, (omega arith, (omega arith, (omega arith, (omega arith, (omega arith, (omega arith, (omega arith, tt))))))))))
 
-  small-written : Bytes W
+  -- what is written is bytes
+  pub small-written : Bytes W
   small-written = small-bytes W (subst (All (λ (x : ℕ). x < 256)) (sym (written f enough N))
       (all-append (λ (x : ℕ). x < 256) (head f enough N) (policyPart f enough N ++ (boxPart f enough N ++ wirePart f enough N)) small-head
       (all-append (λ (x : ℕ). x < 256) (policyPart f enough N) (boxPart f enough N ++ wirePart f enough N) (rows-small policy (N .policies) (fits .policies-fit))

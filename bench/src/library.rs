@@ -1,0 +1,25 @@
+//! The proved library, as Rust calls it. A slice is handed over as a pointer and a length.
+
+extern "C" {
+    fn lnianotka_check(network: *const u8, length: usize) -> u8;
+    fn lnianotka_judge(input: *const u8, length: usize, out: *mut u8, room: usize) -> usize;
+    fn lnianotka_cut(input: *const u8, length: usize, out: *mut u8, room: usize) -> usize;
+}
+
+/// The first of the refusals 1 to 10 that applies to a network, or 0.
+pub fn check(network: &[u8]) -> u8 {
+    // SAFETY: the function reads the bytes of the slice alone.
+    unsafe { lnianotka_check(network.as_ptr(), network.len()) }
+}
+
+/// The judge's answer, laid at the start of `out` where it fits; gives its length.
+pub fn judge(input: &[u8], out: &mut [u8]) -> usize {
+    // SAFETY: the function reads the bytes of the one slice and writes within the other.
+    unsafe { lnianotka_judge(input.as_ptr(), input.len(), out.as_mut_ptr(), out.len()) }
+}
+
+/// The cutter's answer, laid at the start of `out` where it fits; gives its length.
+pub fn cut(input: &[u8], out: &mut [u8]) -> usize {
+    // SAFETY: as above.
+    unsafe { lnianotka_cut(input.as_ptr(), input.len(), out.as_mut_ptr(), out.len()) }
+}

@@ -1,0 +1,91 @@
+//! Times check, judge and cut of the proved library against the reference: the same bytes, one
+//! process, the two by turns, so that what else the machine does falls on both.
+
+mod library;
+
+use reference::bench::{self, Load};
+use reference::{program, record};
+use std::hint::black_box;
+use std::time::Instant;
+
+/// The most that a call may take, in times of the reference's.
+const BAR: f64 = 1.5;
+const WARM: usize = 300;
+const TURNS: usize = 2_000;
+
+fn main() {
+    println!("nanoseconds a call, the median of {TURNS}; the bar is {BAR} times the reference");
+    println!("load       boxes  wires  call     proved  reference  ratio");
+    let mut over = Vec::new();
+    for load in bench::loads() {
+        let (judge, cut, whole) = (load.judge_input(), load.cut_input(), load.whole_input());
+        let mut out = vec![0; record::LARGEST_NETWORK];
+        let mut show = |call, [proved, reference]: [u128; 2]| {
+            let (name, boxes, wires) = (&load.name, load.boxes, load.wires);
+            let ratio = proved as f64 / reference as f64;
+            println!("{name:<10} {boxes:>5} {wires:>6}  {call:<6} {proved:>8} {reference:>10} {ratio:>6.2}");
+            if largest(&load) && ratio > BAR {
+                over.push(format!("{name} {call}"));
+            }
+        };
+        let network = &load.network[..];
+        assert_eq!(library::check(network), 0);
+        show(
+            "check",
+            both(
+                || library::check(black_box(network)),
+                || record::check_network(black_box(network)),
+            ),
+        );
+        for (call, input, proved, reference) in [
+            ("judge", &judge, library::judge as Proved, program::judge_bytes as Reference),
+            ("cut", &cut, library::cut, program::cut_bytes),
+            ("whole", &whole, library::cut, program::cut_bytes),
+        ] {
+            let length = proved(input, &mut out);
+            assert!(out[..length] == reference(input), "the answers differ");
+            show(
+                call,
+                both(
+                    || proved(black_box(input), &mut out),
+                    || reference(black_box(input)),
+                ),
+            );
+        }
+    }
+    match &over[..] {
+        [] => println!("all within the bar on the largest records"),
+        over => println!("over the bar: {}", over.join(", ")),
+    }
+}
+
+type Proved = fn(&[u8], &mut [u8]) -> usize;
+type Reference = fn(&[u8]) -> Vec<u8>;
+
+/// The bar is for the largest records; the others show how the cost grows.
+fn largest(load: &Load) -> bool {
+    !load.name.starts_with("wires")
+}
+
+/// The medians of two calls that take turns.
+fn both<A, B>(mut one: impl FnMut() -> A, mut other: impl FnMut() -> B) -> [u128; 2] {
+    let mut measures = [Vec::new(), Vec::new()];
+    for turn in 0..WARM + TURNS {
+        let taken = [time(&mut one), time(&mut other)];
+        if turn >= WARM {
+            for (all, one) in measures.iter_mut().zip(taken) {
+                all.push(one);
+            }
+        }
+    }
+    measures.map(|mut all| {
+        all.sort_unstable();
+        all[all.len() / 2]
+    })
+}
+
+fn time<T>(call: &mut impl FnMut() -> T) -> u128 {
+    let start = Instant::now();
+    black_box(call());
+    start.elapsed().as_nanos()
+}

@@ -1,0 +1,38 @@
+/* Lnianotka for C and for all that calls C: link the archive that `rt staticlib library` writes (x86-64).
+ *
+ * Every function takes any bytes and comes back. What it promises is proved; what a caller owes is what the types of the
+ * proved functions say: a pointer is never null, not even where its length is 0, and no byte of `out` is a byte of the
+ * input. A call takes some 150 kilobytes of stack. Nothing is kept between calls. */
+#ifndef LNIANOTKA_H
+#define LNIANOTKA_H
+
+#include <stddef.h>
+#include <stdint.h>
+
+#ifdef __cplusplus
+extern "C" {
+#endif
+
+/* The longest inputs that are read; a longer one is refused. */
+enum { LNIANOTKA_JUDGE_INPUT = 40785, LNIANOTKA_CUT_INPUT = 41298 };
+
+/* Room enough for every answer of the judge, and of the cutter. */
+enum { LNIANOTKA_JUDGE_ANSWER = 153, LNIANOTKA_CUT_ANSWER = 35146 };
+
+/* The number of the first refusal, 1 to 10, that applies to a network record; 0 where the network is sound. */
+uint8_t lnianotka_check(const uint8_t *network, size_t length);
+
+/* The line that the judging program prints when it reads `input`: a network record and then a route list record.
+ * Answers the line's length. The line stands at the start of `out` where it fits in `room` bytes, and the bytes behind it
+ * keep their values; where it does not fit, all of them do. */
+size_t lnianotka_judge(const uint8_t *input, size_t length, uint8_t *out, size_t room);
+
+/* What the cutting program writes when it reads `input`: a network record, one byte for the fragment asked, and then a
+ * sheet record. A fragment begins with a zero byte, a refused line with 'r'. Answers and writes as lnianotka_judge does. */
+size_t lnianotka_cut(const uint8_t *input, size_t length, uint8_t *out, size_t room);
+
+#ifdef __cplusplus
+}
+#endif
+
+#endif

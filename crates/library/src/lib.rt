@@ -1,0 +1,34 @@
+// What programs in other languages link: the check, the judge and the cutter, from bytes to bytes.
+//
+// The archive that `rt staticlib library` writes has the functions below under their own names, by C's calling convention;
+// a slice is handed over as a pointer and a length (include/lnianotka.h). No function has a `requires`: a caller in
+// another language owes no more than what the types say.
+ghost use mathlib.Core.Path.{_≡_};
+ghost use lib.ListN.{length};
+ghost use Rattle.lists.specs.Laid.{placed};
+ghost use Rattle.records.specs.Network.{networkRefusal};
+ghost use Rattle.judging.specs.Text.{judgeText};
+use records::Check;
+use records::check_network;
+use records::number_of;
+
+// The number of the first refusal that applies to a network record, or 0 where the network is sound.
+#[no_mangle]
+pub extern "C" fn lnianotka_check(network: &[u8]) -> u8
+    ensures { λ r. ⌜ r ≡ networkRefusal (now (network .entry)) .number ⌝ }
+{
+    match check_network(network) {
+        Check::Fine => 0,
+        Check::Refused(refusal) => number_of(refusal),
+    }
+}
+
+// The line that the judging program prints when it reads these bytes: its length, and the line itself at the start of out
+// where it fits.
+#[no_mangle]
+pub extern "C" fn lnianotka_judge(input: &[u8], out: &mut [u8]) -> usize
+    ensures count { λ r. ⌜ r ≡ length (judgeText (now (input .entry))) ⌝ }
+    ensures text { λ _. ⌜ now (out .exit) ≡ placed (judgeText (now (input .entry))) (now (out .entry)) ⌝ }
+{
+    judging::judge_bytes(input, out)
+}

@@ -1,0 +1,7 @@
+-- The proofs of the statements in specs/, under the same names; Cuts has what they share about cuts.
+pub mod Cuts
+pub mod Demand1
+pub mod Demand2
+pub mod Demand3
+pub mod SameAnswer
+pub mod Determined

@@ -1,0 +1,60 @@
+-- The networks, lists and sheets of the bench examples (document 01), as records.
+--     held, adds, masks        routes and policies
+--     chainRecord              three boxes in a row
+--     twoAnswers               the network with two settled lists
+--     listing, splitting       lists and sheets for three boxes
+use mathlib.Core.Bool.{true, false}
+use mathlib.Core.List.{List, [], _∷_}
+use mathlib.Core.Option.{none}
+use Prim.Native.Nat.{ℕ}
+use Rattle.routes.specs.declared.Demand.{Demand}
+use Rattle.routes.specs.declared.Demand.the-variants.{Nothing, Hold}
+use Rattle.routes.specs.declared.Policy.{Policy}
+use Rattle.routes.specs.declared.Route.{Route}
+use Rattle.routes.specs.declared.Route.the-variants.{None, Held}
+use Rattle.networks.specs.Network.{Box, own, Wire}
+use Rattle.records.specs.Form.{version1}
+use Rattle.reading.specs.Whole.{writeNetwork, writeList, writeSheet}
+
+-- a route (preference, cost, origin, tags)
+abbrev pub held : ℕ → ℕ → ℕ → ℕ → Route
+held p c o t = Held (record { preference = p; cost = c; origin = o; tags = t })
+
+-- policies that only add to the cost, or only have masks (need, bar, clear, set)
+abbrev pub adds : ℕ → Policy
+adds n = record { need = 0; bar = 0; clear = 0; set = 0; flag = false; preference = 0; added = n }
+
+abbrev pub masks : ℕ → ℕ → ℕ → ℕ → Policy
+masks n b c s = record { need = n; bar = b; clear = c; set = s; flag = false; preference = 0; added = 0 }
+
+-- an own box that promises nothing
+abbrev plain : ℕ → Route → Demand → Box Route Demand
+plain id initial demand = own (record { id = id; initial = initial; promise = none; demand = demand })
+
+abbrev wire : ℕ → ℕ → ℕ → Wire
+wire to from policy = record { to = to; from = from; policy = policy }
+
+-- Edges both ways between 1 and 2 and between 2 and 3 add 1; box 1 starts with a route, and box 3 must hold one up to a ceiling.
+abbrev pub chainRecord : Route → ℕ → List ℕ
+chainRecord start ceiling = writeNetwork version1 (record {
+  policies = adds 1 ∷ [];
+  boxes = plain 1 start Nothing ∷ plain 2 None Nothing ∷ plain 3 None (Hold ceiling 0) ∷ [];
+  wires = wire 1 2 0 ∷ wire 2 1 0 ∷ wire 2 3 0 ∷ wire 3 2 0 ∷ [];
+})
+
+-- Box 1 starts; 1 to 2 and 1 to 3 add 1; 2 to 3 and 3 to 2 bar tag 1, set tag 1, set preference 200, add 1.
+abbrev pub twoAnswers : List ℕ
+twoAnswers = writeNetwork version1 (record {
+  policies = adds 1 ∷ record { need = 0; bar = 1; clear = 0; set = 1; flag = true; preference = 200; added = 1 } ∷ [];
+  boxes = plain 1 (held 100 0 1 0) Nothing ∷ plain 2 None Nothing ∷ plain 3 None Nothing ∷ [];
+  wires = wire 2 1 0 ∷ wire 2 3 1 ∷ wire 3 1 0 ∷ wire 3 2 1 ∷ [];
+})
+
+-- the list with these routes for boxes 1, 2 and 3
+abbrev pub listing : Route → Route → Route → List ℕ
+listing a b c = writeList version1 (record { id = 1; route = a } ∷ record { id = 2; route = b } ∷ record { id = 3; route = c } ∷ [])
+
+-- boxes 1 and 2 in fragment 0, box 3 in fragment 1, with these notes
+abbrev pub splitting : Route → Route → Route → List ℕ
+splitting a b c = writeSheet version1
+    (record { id = 1; fragment = 0; note = a } ∷ record { id = 2; fragment = 0; note = b } ∷ record { id = 3; fragment = 1; note = c } ∷ [])

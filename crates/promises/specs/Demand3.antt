@@ -1,0 +1,49 @@
+-- Demand 3: cutting keeps its own algebra. All of it is about bytes, and buffers hold what they hold, with room for the largest record.
+use mathlib.Core.Path.{_≡_}
+use mathlib.Core.Bool.{true}
+use mathlib.Core.List.{List}
+use mathlib.Core.Logic.{_↔_}
+use Prim.Native.Nat.{ℕ}
+use Rattle.lists.specs.Codec.{Bytes}
+use Rattle.networks.specs.Answer.{Answer, given, refused, andThen, Entered}
+use Rattle.networks.specs.Cut.{Agrees, Third}
+use Rattle.networks.specs.Network.{owns}
+use Rattle.networks.specs.Sheets.{number, listed}
+use Rattle.records.specs.Entries.{listRefusal, sheetRefusal}
+use Rattle.records.specs.Numbers.{fine}
+use Rattle.promises.specs.Calls.{networkOf, sheetOf, listOf, Passes, cutInto, Roomy, SheetCuts}
+
+-- A list with an entry for every own box, and a sheet that cuts the network: the list passes in every fragment exactly where it passes in
+-- the whole and has the note at each box that a cut wire leaves.
+abbrev pub FragmentsAndWhole : List ℕ → List ℕ → List ℕ → Type 0
+FragmentsAndWhole network sheet list = Bytes network → Bytes sheet → SheetCuts network sheet → listRefusal list ≡ fine → Entered (networkOf network) (listed (listOf list))
+    → ((k : ℕ) (out F : List ℕ) → Roomy out → cutInto network sheet k out ≡ given F → Passes F list)
+    ↔ (Passes network list × Agrees (networkOf network) (sheetOf sheet) (listed (listOf list)))
+
+-- one cut upon another's record
+abbrev pub cutTwice : List ℕ → List ℕ → ℕ → List ℕ → List ℕ → ℕ → List ℕ → Answer (List ℕ)
+cutTwice network first x out second y out′ = andThen (cutInto network first x out) (λ (F : List ℕ). cutInto F second y out′)
+
+-- Two well-formed sheets with the same boxes and notes, and a third that keeps two boxes together exactly where both do and that cuts the
+-- network.
+pub record Refined (network X Y Z : List ℕ) : Type 0 where
+  pub bytes : Bytes network × Bytes X × Bytes Y
+  pub first-formed : sheetRefusal X ≡ fine
+  pub second-formed : sheetRefusal Y ≡ fine
+  pub third : Third (sheetOf X) (sheetOf Y) (sheetOf Z)
+  pub cuts : SheetCuts network Z
+
+-- For every own box: cutting out its fragment by the first and then by the second, or by the second and then by the first, leaves the
+-- bytes that cutting by the third leaves; and these are a record, not a refusal.
+abbrev pub CommonRefinement : List ℕ → List ℕ → List ℕ → List ℕ → Type 0
+CommonRefinement network X Y Z = Refined network X Y Z → (w : ℕ) → owns (networkOf network) w ≡ true
+    → (o₁ o₂ o₃ : List ℕ) → Roomy o₁ → Roomy o₂ → Roomy o₃
+    → (cutTwice network X (number (sheetOf X) w) o₁ Y (number (sheetOf Y) w) o₂ ≡ cutInto network Z (number (sheetOf Z) w) o₃)
+    × (cutTwice network Y (number (sheetOf Y) w) o₁ X (number (sheetOf X) w) o₂ ≡ cutInto network Z (number (sheetOf Z) w) o₃)
+    × ((F : List ℕ) × (cutInto network Z (number (sheetOf Z) w) o₃ ≡ given F))
+
+-- Where no own box is in both fragments, the answer is 18; of its place nothing is said, as it differs with the order.
+abbrev pub ApartRefused : List ℕ → List ℕ → List ℕ → List ℕ → Type 0
+ApartRefused network X Y Z = Refined network X Y Z → (x y : ℕ)
+    → ((w : ℕ) → owns (networkOf network) w ≡ true → number (sheetOf X) w ≡ x → number (sheetOf Y) w ≡ y → ⊥)
+    → (o₁ o₂ : List ℕ) → Roomy o₁ → Roomy o₂ → (place : ℕ) × (cutTwice network X x o₁ Y y o₂ ≡ refused 18 place)

@@ -1,0 +1,13 @@
+-- How long the largest records of a form are (document 01, 'Records'): every count at its bound.
+use Prim.Native.Nat.{ℕ, _+_, _*_}
+use Rattle.records.specs.Form.{nodeWidth, entryWidth}
+use Rattle.records.specs.declared.Form.{Form}
+use Rattle.reading.specs.Whole.{bounds}
+
+-- ten bytes, the policies, the nodes, the edges
+unfoldable pub largestNetwork : Form → ℕ
+largestNetwork f = 10 + 13 * bounds f .policies + nodeWidth f * bounds f .boxes + 5 * bounds f .wires
+
+-- seven bytes and the entries of a list, or of a sheet
+unfoldable pub largestEntries : Form → ℕ → ℕ
+largestEntries f lead = 7 + entryWidth f lead * f .most
