@@ -28,7 +28,11 @@ fn cut_within(network: &[u8], sheet: &[u8], k: u8, out: &mut [u8], room: usize) 
 {
     match cut(network, sheet, k, &mut out[0..room]) {
         CutAnswer::Done(length) => length,
-        CutAnswer::Refused(refusal) => put_refused(wide(number_of(refusal)), place_of(refusal), out),
+        CutAnswer::Refused(refusal) => put_refused(
+            wide(number_of(refusal)),
+            place_of(refusal),
+            out,
+        ),
     }
 }
 

@@ -3,8 +3,8 @@ use native.Mathlib.Omega.{arith}
 use Prim.Native.Nat.{_-_}
 use Rattle.judging.proofs.PlaceLaws.{Placing, placing}
 use borrow.Author.Needs.{needs}
-use Rattle.judging.proofs.search.place_entries.Statement.{statement}
-use Rattle.judging.proofs.search.place_entries.Tie as tie
+use Rattle.judging.proofs.kept.place_entries.Statement.{statement}
+use Rattle.judging.proofs.kept.place_entries.Tie as tie
 
 abbrev Inv-loop : tie.InvT-loop
 Inv-loop form network list places₀ n i₀ near₀ places i near = Placing form network list n i places

@@ -1,8 +1,8 @@
 -- One law for each way: an input, an own box without an entry, an own box with one.
 use Rattle.judging.proofs.PlaceLaws.{placing-one}
 use borrow.Author.Needs.{needs}
-use Rattle.judging.proofs.search.place_entry.Statement.{statement}
-use Rattle.judging.proofs.search.place_entry.Tie as tie
+use Rattle.judging.proofs.kept.place_entry.Statement.{statement}
+use Rattle.judging.proofs.kept.place_entry.Tie as tie
 
 is-own-requires : tie.Need-is-own-requires
 is-own-requires c κs = search (needs, placing-one)
