@@ -18,18 +18,16 @@ use Rattle.numbers.specs.BigEndian.{u16At}
 use Rattle.routes.specs.Form.{fieldsAt, routeAt}
 use Rattle.routes.specs.declared.Route.{Route}
 use Rattle.routes.specs.declared.Route.the-variants.{None, Held}
-use Rattle.networks.specs.Answer.{Answer, given, refused}
+use Rattle.networks.specs.Answer.{given, refused}
 use Rattle.networks.specs.House.{house}
 use Rattle.networks.specs.Judge.{Verdict}
 use Rattle.networks.specs.Solution.{mapping}
 use Rattle.records.specs.Edge.{boxed}
-use Rattle.records.specs.Entries.{entryCount, entryOffset, entryOf, listRefusal}
+use Rattle.records.specs.Entries.{entryCount, entryOffset, entryOf}
 use Rattle.records.specs.Fine.{network-fine, entries-fine}
 use Rattle.records.specs.Form.{version1, listLead}
 use Rattle.records.specs.Layout.{nodeCount, nodeOffset}
-use Rattle.records.specs.Network.{networkRefusal}
 use Rattle.records.specs.Node.{rowOf, isOwn}
-use Rattle.records.specs.Numbers.{Numbers, fine}
 use Rattle.records.specs.Offsets.{usable1, entry-within, fine-room, node-fields-room}
 use Rattle.records.specs.RowLaws.{row-within, row-found}
 use Rattle.records.specs.declared.Form.{Form}
