@@ -41,7 +41,7 @@ use Rattle.reading.specs.Whole.{readNetwork, readList}
 use Rattle.reading.proofs.Lowest.{passed, lowest-rows}
 use Rattle.reading.proofs.Said.{box-id-at}
 use Rattle.judging.specs.Judging.{judgeAt, judgeRecords, verdictAt}
-use Rattle.judging.specs.Ready.{Placed, Prepared, enteredAt, PlacedTo}
+use Rattle.judging.specs.Ready.{Ready, enteredAt, PlacedTo}
 
 module _ (network list : List ℕ) (c : Check) (h : checkNumbers c ≡ networkRefusal network) where
   pub network-refused : (r : Refusal) → c ≡ Refused r → refused (numbersOf r .number) (numbersOf r .place) ≡ judgeRecords network list
@@ -131,16 +131,17 @@ module _ (f : Form) (network list : List ℕ) where
       entered : (i : ℕ) → i < nodeCount network → enteredAt f network list i ≡ true
       entered i k = first-all (enteredAt f network list) (nodeCount network) i (omega arith)
 
-      place-of : (i : ℕ) → i < nodeCount network → Placed f network list places i
-      unfolding PlacedTo enteredAt
-      place-of i k = record {
-        entered = λ o. ltb-true _ _ (rw o at (entered i k));
-        there = λ o. placed i (omega arith) o;
+      pub entries-ready : Ready f network list rows
+      unfolding enteredAt
+      entries-ready = record {
+        listed = record { usable = u; sound = sound; formed = formed; entered = λ i k o. ltb-true _ _ (rw o at (entered i k)) };
+        small = small;
+        filled = filled;
       }
 
-      pub search-prepared : Prepared f network list rows places
-      unfolding Prepared
-      search-prepared = record { listed = record { usable = u; sound = sound; formed = formed; placed = place-of }; small = small; filled = filled }
+      pub entries-placed : PlacedTo f network list places (nodeCount network)
+      unfolding PlacedTo
+      entries-placed i k o = placed i (omega arith) o
 
 module _ (f : Form) (u : Usable f) where
   pub sound-room : (network : List ℕ) → NetworkFine f network → Room f network
@@ -158,4 +159,4 @@ zeros-long = length-replicate {A = ℕ} 1024 0
 pub sound-counts : (f : Form) (network : List ℕ) → NetworkFine f network → 5 + 2 ≤ length network
 sound-counts f network h = let l = h .long in omega arith
 
-pub ruleset judging = (entry-lacking, entry-lacking-row, all-entered, search-prepared, sound-room, formed-room, formed-rising, zeros-long, sound-counts)
+pub ruleset judging = (entry-lacking, entry-lacking-row, all-entered, entries-ready, entries-placed, sound-room, formed-room, formed-rising, zeros-long, sound-counts)

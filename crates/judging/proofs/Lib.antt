@@ -3,6 +3,7 @@ pub mod Said
 pub mod SenderLaws
 pub mod BoxLaws
 pub mod PlaceLaws
+pub mod KeepLaws
 pub mod WalkLaws
 pub mod SearchLaws
 pub mod EntryLaws

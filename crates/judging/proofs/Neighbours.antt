@@ -18,27 +18,25 @@ use Rattle.numbers.specs.BigEndian.{u16At}
 use Rattle.routes.specs.Form.{fieldsAt, routeAt}
 use Rattle.routes.specs.declared.Route.{Route}
 use Rattle.routes.specs.declared.Route.the-variants.{None, Held}
-use Rattle.networks.specs.Answer.{Answer, given, refused}
+use Rattle.networks.specs.Answer.{given, refused}
 use Rattle.networks.specs.House.{house}
 use Rattle.networks.specs.Judge.{Verdict}
 use Rattle.networks.specs.Solution.{mapping}
 use Rattle.records.specs.Edge.{boxed}
-use Rattle.records.specs.Entries.{entryCount, entryOffset, entryOf, listRefusal}
+use Rattle.records.specs.Entries.{entryCount, entryOffset, entryOf}
 use Rattle.records.specs.Fine.{network-fine, entries-fine}
 use Rattle.records.specs.Form.{version1, listLead}
 use Rattle.records.specs.Layout.{nodeCount, nodeOffset}
-use Rattle.records.specs.Network.{networkRefusal}
 use Rattle.records.specs.Node.{rowOf, isOwn}
-use Rattle.records.specs.Numbers.{Numbers, fine}
 use Rattle.records.specs.Offsets.{usable1, entry-within, fine-room, node-fields-room}
 use Rattle.records.specs.RowLaws.{row-within, row-found}
 use Rattle.records.specs.declared.Form.{Form}
 use Rattle.reading.specs.Whole.{readNetwork, readList}
-use Rattle.reading.specs.Refused.{unless}
 use Rattle.judging.specs.Judging.{highest, judgeAt, judgeRecords}
 use Rattle.judging.specs.Neighbour.{routePart, boxPart, namedPart, neighbourBytes}
 use Rattle.judging.specs.Ready.{enteredAt}
 use Rattle.judging.proofs.EntryLaws.{entry-lacking}
+use Rattle.judging.proofs.OnBytes.{judged}
 use Rattle.judging.proofs.Said.{listed-at, mapping-own, mapping-input}
 
 -- a part of a record has the record's bytes, and so says the record's route
@@ -74,14 +72,6 @@ module _ (w : ℕ) (b : List ℕ) (o : ℕ) where
   unfolding routePart
   part-long l = length-take-le w (drop o b) (rw length-drop (omega arith))
 
--- what is answered of two records is answered of what they say
-unless-given : (n : Numbers) (a : Answer (Verdict Route)) (v : Verdict Route) → unless n a ≡ given v → a ≡ given v
-unless-given n a v = go (eqb (n .number) 0)
-  where
-    go : (t : Bool) → cond t a (refused (n .number) (n .place)) ≡ given v → a ≡ given v
-    go true e = e
-    go false e = let z : _≡_ {A = ℕ} 0 1 = cc in absurd (omega arith)
-
 module _ (f : Form) (network list : List ℕ) (v : Verdict Route) (e : judgeAt f network list ≡ given v) where
   -- every own box has an entry
   entered : nodeCount network ≤ firstBad (enteredAt f network list) (nodeCount network)
@@ -113,8 +103,8 @@ module _ (f : Form) (network list : List ℕ) (v : Verdict Route) (e : judgeAt f
 
 module _ (network list : List ℕ) (id : ℕ) (v : Verdict Route) (e : judgeRecords network list ≡ given v) (q : boxed version1 network id ≡ true) where
   said : judgeAt version1 network list ≡ given v
-  unfolding judgeRecords
-  said = unless-given (listRefusal list) _ v (unless-given (networkRefusal network) _ v e)
+  unfolding judgeAt
+  said = (judged network list v e) .2
 
   bytes : neighbourBytes network list id ≡ boxPart version1 network list id
   unfolding neighbourBytes namedPart
@@ -123,14 +113,14 @@ module _ (network list : List ℕ) (id : ℕ) (v : Verdict Route) (e : judgeReco
   pub neighbour-route : routeAt 9 (neighbourBytes network list id) 0 ≡ mapping (house highest) (readNetwork version1 network) (readList version1 list) id
   neighbour-route = rw bytes (box-route version1 network list v said id q (omega arith))
 
-  pub neighbour-nine : networkRefusal network ≡ fine → listRefusal list ≡ fine → length (neighbourBytes network list id) ≡ 9
+  pub neighbour-nine : length (neighbourBytes network list id) ≡ 9
   unfolding boxPart
-  neighbour-nine n l = rw bytes (go (isOwn version1 network (rowOf version1 network id)) refl)
+  neighbour-nine = rw bytes (go (isOwn version1 network (rowOf version1 network id)) refl)
     where
       go : (t : Bool) → isOwn version1 network (rowOf version1 network id) ≡ t
           → length (cond t (routePart 9 list (entryOffset version1 listLead (entryOf version1 listLead list id) + listLead)) (routePart 9 network (nodeOffset version1 network (rowOf version1 network id) + 3))) ≡ 9
       go true o =
-          let whole = (entries-fine listLead list l) .whole in
+          let whole = (entries-fine listLead list ((judged network list v e) .1)) .whole in
           part-long 9 list _ (omega (arith, entry-within version1 listLead (entryOf version1 listLead list id) (entryCount list) (own-entered version1 network list v said id q o)))
       go false o = part-long 9 network _
-          (omega (arith, node-fields-room version1 network (fine-room version1 network usable1 (network-fine network n)) (rowOf version1 network id) (row-within version1 network id q)))
+          (omega (arith, node-fields-room version1 network (fine-room version1 network usable1 (network-fine network ((judged network list v e) .0))) (rowOf version1 network id) (row-within version1 network id q)))

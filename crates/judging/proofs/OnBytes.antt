@@ -50,7 +50,7 @@ module _ (network list : List ℕ) where
   judge-said n l = unless-fine (networkRefusal network) _ n ∙ unless-fine (listRefusal list) _ l
 
   -- what is answered with a verdict is not refused
-  judged : (v : Verdict Route) → judgeRecords network list ≡ given v
+  pub judged : (v : Verdict Route) → judgeRecords network list ≡ given v
       → (networkRefusal network ≡ fine) × (listRefusal list ≡ fine) × (judge (house highest) N L ≡ given v)
   unfolding judgeRecords judgeAt
   judged v e =

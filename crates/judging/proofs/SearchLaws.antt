@@ -45,7 +45,7 @@ use Rattle.reading.specs.Whole.{HouseNetwork, HouseList, readNetwork, readList}
 use Rattle.reading.proofs.Said.{edge-parts}
 use Rattle.judging.specs.Judging.{highest, verdictAt}
 use Rattle.judging.specs.Offer.{givenBy, offerAt, faultOf}
-use Rattle.judging.specs.Ready.{Listed, Ready, Prepared}
+use Rattle.judging.specs.Ready.{Listed, Ready, Kept, Prepared}
 use Rattle.judging.specs.Walk.{leadsUpTo, withWire}
 
 module _ (f : Form) (network list : List ℕ) where
@@ -215,13 +215,21 @@ Searching f network list n i j count = SearchingFacts f network list n i j count
 unfoldable pub Wiring : Form → List ℕ → List ℕ → ℕ → Route → Route → ℕ → Type 0
 Wiring f network list node initial r j = WiringFacts f network list node initial r j
 
-module _ (f : Form) (network list rows places : List ℕ) (prepared : Prepared f network list rows places) where
-  h : Ready f network list rows places
-  unfolding Prepared
-  h = prepared
+pub prepared : (f : Form) (network list rows there fields : List ℕ) → Ready f network list rows → Kept f network list there fields (nodeCount network) → Prepared f network list rows there fields
+unfolding Prepared
+prepared f network list rows there fields r k = (r, k)
 
-  pub search-ready : Ready f network list rows places
+module _ (f : Form) (network list rows there fields : List ℕ) (both : Prepared f network list rows there fields) where
+  h : Ready f network list rows
+  unfolding Prepared
+  h = both .0
+
+  pub search-ready : Ready f network list rows
   search-ready = h
+
+  pub search-kept : Kept f network list there fields (nodeCount network)
+  unfolding Prepared
+  search-kept = both .1
 
   pub search-room : Room f network
   search-room = fine-room f network (h .listed .usable) (h .listed .sound)
@@ -232,7 +240,7 @@ module _ (f : Form) (network list rows places : List ℕ) (prepared : Prepared f
   pub search-few : edgeCount network ≤ 4096
   search-few = h .listed .sound .few-edges
 
-  pub search-listed : Listed f network list places
+  pub search-listed : Listed f network list
   search-listed = h .listed
 
   ids-rise : (i : ℕ) → i < nodeCount network → least (nodeId f network) i ≤ nodeId f network i

@@ -42,7 +42,7 @@ module _ (f : Form) (network : List ℕ) (r : Room f network) where
 
 pub ruleset leading = (counts-room, no-wire, wire-few, wire-room, a-wire)
 
-module _ (f : Form) (network list rows places : List ℕ) (h : Ready f network list rows places) (j : ℕ) (l : j < edgeCount network) where
+module _ (f : Form) (network list rows : List ℕ) (h : Ready f network list rows) (j : ℕ) (l : j < edgeCount network) where
   there : Room f network
   there = fine-room f network (h .listed .usable) (h .listed .sound)
 

@@ -4,8 +4,11 @@ use mathlib.Core.Path.{_≡_}
 use mathlib.Core.Bool.{Bool, true, cond, not, _&&_, _||_}
 use mathlib.Core.List.{List}
 use lib.Dec.{ltb}
-use lib.ListN.{getD, set}
+use lib.ListN.{length, getD, set}
 use Rattle.lists.specs.Codec.{Bytes}
+use Rattle.routes.specs.Packed.{routeIn}
+use Rattle.networks.specs.House.{house}
+use Rattle.networks.specs.Solution.{mapping}
 use Rattle.records.specs.Entries.{entryCount, entryOf}
 use Rattle.records.specs.Fine.{NetworkFine, EntriesFine}
 use Rattle.records.specs.Form.{Usable, listLead}
@@ -13,20 +16,19 @@ use Rattle.records.specs.Layout.{nodeCount}
 use Rattle.records.specs.Node.{nodeId, isOwn}
 use Rattle.records.specs.Rows.{Filled}
 use Rattle.records.specs.declared.Form.{Form}
+use Rattle.reading.specs.Whole.{readNetwork, readList}
+use Rattle.judging.specs.Judging.{highest}
 
--- the own box in a row has an entry, whose row in the list stands in the table
-pub record Placed (f : Form) (network list places : List ℕ) (i : ℕ) : Type 0 where
-  pub entered : isOwn f network i ≡ true → entryOf f listLead list (nodeId f network i) < entryCount list
-  pub there : isOwn f network i ≡ true → getD places i 0 ≡ entryOf f listLead list (nodeId f network i)
-
-pub record Listed (f : Form) (network list places : List ℕ) : Type 0 where
+-- two records that are not refused, and an entry for every own box
+pub record Listed (f : Form) (network list : List ℕ) : Type 0 where
   pub usable : Usable f
   pub sound : NetworkFine f network
   pub formed : EntriesFine f listLead list
-  pub placed : (i : ℕ) → i < nodeCount network → Placed f network list places i
+  pub entered : (i : ℕ) → i < nodeCount network → isOwn f network i ≡ true → entryOf f listLead list (nodeId f network i) < entryCount list
 
-pub record Ready (f : Form) (network list rows places : List ℕ) : Type 0 where
-  pub listed : Listed f network list places
+-- and the table from ids to rows
+pub record Ready (f : Form) (network list rows : List ℕ) : Type 0 where
+  pub listed : Listed f network list
   pub small : Bytes network
   pub filled : Filled f network rows
 
@@ -45,6 +47,12 @@ withEntry f network list i places =
     (set places i (entryOf f listLead list (nodeId f network i)))
     places
 
--- the same, shut: what the search carries through its loops
-unfoldable pub Prepared : Form → List ℕ → List ℕ → List ℕ → List ℕ → Type 0
-Prepared f network list rows places = Ready f network list rows places
+-- the routes that the first n nodes hold stand in two tables
+pub record Kept (f : Form) (network list there fields : List ℕ) (n : ℕ) : Type 0 where
+  pub there-long : length there ≡ 1024
+  pub fields-long : length fields ≡ 1024
+  pub route : (i : ℕ) → i < n → routeIn (getD there i 0) (getD fields i 0) ≡ mapping (house highest) (readNetwork f network) (readList f list) (nodeId f network i)
+
+-- what the search carries through its loops, shut
+unfoldable pub Prepared : Form → List ℕ → List ℕ → List ℕ → List ℕ → List ℕ → Type 0
+Prepared f network list rows there fields = Ready f network list rows × Kept f network list there fields (nodeCount network)

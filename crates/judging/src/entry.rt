@@ -4,9 +4,12 @@ ghost use Rattle.records.specs.Fine.{NetworkFine, EntriesFine};
 ghost use Rattle.records.specs.Form.{Usable, listLead};
 ghost use Rattle.records.specs.Rows.{Filled};
 ghost use Rattle.judging.specs.Answers.{answerOf};
-ghost use Rattle.judging.specs.Judging.{judgeAt, judgeRecords};
+ghost use Rattle.records.specs.Layout.{nodeCount};
+ghost use Rattle.judging.specs.Judging.{judgeAt, judgeRecords, verdictAt};
+ghost use Rattle.judging.specs.Ready.{Ready, PlacedTo};
 use crate::Verdict;
-use crate::search::place_entries;
+use crate::kept::keep_routes;
+use crate::kept::place_entries;
 use crate::search::search;
 use numbers::u16_at;
 use records::Check;
@@ -16,6 +19,23 @@ use records::check_list;
 use records::check_network_rows;
 use records::node_id;
 use records::wide16;
+
+// Judges a list that has an entry for every own box: the search alone.
+fn judge_entered(
+    form: Form,
+    network: &[u8],
+    list: &[u8],
+    rows: &[u16; 65536],
+    places: &[u16; 1024],
+) -> Verdict
+    requires { ⌜ Ready form (now network) (now list) (now rows) × PlacedTo form (now network) (now list) (now places) (nodeCount (now network)) ⌝ }
+    ensures { λ r. ⌜ answerOf r ≡ verdictAt form (now (network .entry)) (now (list .entry)) ⌝ }
+{
+    let mut there = [0u8; 1024];
+    let mut fields = [0u64; 1024];
+    keep_routes(form, network, list, places, &mut there, &mut fields);
+    search(form, network, list, rows, &there, &fields)
+}
 
 // Judges a list against a network, both of them not refused: 17 before the search.
 fn judge_sound(form: Form, network: &[u8], list: &[u8], rows: &[u16; 65536]) -> Verdict
@@ -27,7 +47,7 @@ fn judge_sound(form: Form, network: &[u8], list: &[u8], rows: &[u16; 65536]) -> 
     if row < wide16(u16_at(network, 5)) {
         return Verdict::Refused(Refusal::NoEntry(node_id(form, network, row)));
     }
-    search(form, network, list, rows, &places)
+    judge_entered(form, network, list, rows, &places)
 }
 
 // Judges a list record against a network record: the network's refusals, the list's, an own box without an entry, and then

@@ -1,6 +1,7 @@
 // Judging: the first fault of a proposal by rising id, or a pass; and the line that says it.
 mod at_box;
 mod entry;
+mod kept;
 mod lookup;
 mod search;
 mod senders;

@@ -6,10 +6,11 @@ ghost use lib.ListN.{length};
 ghost use Rattle.records.specs.Edge.{boxed};
 ghost use Rattle.records.specs.Fine.{NetworkFine, EntriesFine};
 ghost use Rattle.records.specs.Form.{Usable, listLead};
+ghost use Rattle.records.specs.Layout.{nodeCount};
 ghost use Rattle.records.specs.Rows.{Filled};
 ghost use Rattle.judging.specs.Neighbour.{routePart, boxPart, namedPart, neighbourAt, neighbourBytes};
-ghost use Rattle.judging.specs.Ready.{Ready, Prepared};
-use crate::search::place_entries;
+ghost use Rattle.judging.specs.Ready.{Ready, PlacedTo};
+use crate::kept::place_entries;
 use numbers::u16_at;
 use records::Check;
 use records::Form;
@@ -37,7 +38,7 @@ fn box_part<'a>(
     places: &[u16; 1024],
     id: u16,
 ) -> &'a [u8]
-    requires { ⌜ Ready form (now network) (now list) (now rows) (now places) × (boxed form (now network) id ≡ true) ⌝ }
+    requires { ⌜ Ready form (now network) (now list) (now rows) × PlacedTo form (now network) (now list) (now places) (nodeCount (now network)) × (boxed form (now network) id ≡ true) ⌝ }
     ensures { λ r. ⌜ now r ≡ boxPart form (now (network .entry)) (now (list .entry)) id ⌝ }
 {
     let width = form.route;
@@ -57,7 +58,7 @@ fn named_part<'a>(
     places: &[u16; 1024],
     id: u16,
 ) -> &'a [u8]
-    requires { ⌜ Prepared form (now network) (now list) (now rows) (now places) ⌝ }
+    requires { ⌜ Ready form (now network) (now list) (now rows) × PlacedTo form (now network) (now list) (now places) (nodeCount (now network)) ⌝ }
     ensures { λ r. ⌜ now r ≡ namedPart form (now (network .entry)) (now (list .entry)) id ⌝ }
 {
     if rows[id as usize] == 0 {

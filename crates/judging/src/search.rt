@@ -1,16 +1,10 @@
 // The search for the first fault.
 ghost use mathlib.Core.Path.{_≡_};
-ghost use lib.ListN.{length};
-ghost use Rattle.lists.specs.Codec.{Bytes};
-ghost use Rattle.lists.specs.First.{firstBad};
 ghost use Prim.Native.Nat.{_≤_, _<_};
-ghost use Rattle.lists.specs.Rising.{Rising};
-ghost use Rattle.records.specs.Entries.{EntriesRoom, entryCount, entryId};
-ghost use Rattle.records.specs.Form.{listLead};
 ghost use Rattle.records.specs.Layout.{Room, nodeCount, edgeCount};
 ghost use Rattle.judging.specs.Answers.{answerOf};
 ghost use Rattle.judging.specs.Judging.{verdictAt};
-ghost use Rattle.judging.specs.Ready.{Prepared, Ready, enteredAt, PlacedTo, withEntry};
+ghost use Rattle.judging.specs.Ready.{Prepared, Ready, Kept};
 ghost use Rattle.judging.specs.Walk.{leadsUpTo, withWire};
 use crate::Fault;
 use crate::Finding;
@@ -22,49 +16,11 @@ use crate::senders::offer;
 use numbers::u16_at;
 use records::Form;
 use records::edge_offset;
-use records::entry_of;
 use records::is_own;
 use records::node_id;
 use records::wide16;
 use routes::Route;
 use routes::better;
-
-// Stores the row of the entry of the node in a row in places, where it is an own one with an entry. Answers whether it is
-// no own one, or has an entry.
-fn place_entry(form: Form, network: &[u8], list: &[u8], places: &mut [u16; 1024], i: usize) -> bool
-    requires { ⌜ Room form (now network) × (i < nodeCount (now network)) × EntriesRoom form listLead (now list) × Rising (entryId form listLead (now list)) (entryCount (now list)) × (length (now places) ≡ 1024) ⌝ }
-    ensures entered { λ r. ⌜ r ≡ enteredAt form (now (network .entry)) (now (list .entry)) i ⌝ }
-    ensures table { λ _. ⌜ now (places .exit) ≡ withEntry form (now (network .entry)) (now (list .entry)) i (now (places .entry)) ⌝ }
-{
-    if !is_own(form, network, i) {
-        return true;
-    }
-    let row = entry_of(form, 2, list, node_id(form, network, i));
-    if wide16(u16_at(list, 5)) <= row {
-        return false;
-    }
-    places[i] = row as u16;
-    true
-}
-
-// Stores the row of each own box's entry in places, up to the first own box without an entry, and answers that box's row,
-// or the number of nodes where every own box has one.
-pub fn place_entries(form: Form, network: &[u8], list: &[u8], places: &mut [u16; 1024]) -> usize
-    requires { ⌜ Room form (now network) × EntriesRoom form listLead (now list) × Rising (entryId form listLead (now list)) (entryCount (now list)) × (length (now places) ≡ 1024) ⌝ }
-    ensures first { λ r. ⌜ r ≡ firstBad (enteredAt form (now (network .entry)) (now (list .entry))) (nodeCount (now (network .entry))) ⌝ }
-    ensures table { λ r. ⌜ PlacedTo form (now (network .entry)) (now (list .entry)) (now (places .exit)) r ⌝ }
-    ensures bytes { λ _. ⌜ Bytes (now (network .entry)) ⌝ }
-{
-    let n = wide16(u16_at(network, 5));
-    let mut i = 0;
-    while i < n {
-        if !place_entry(form, network, list, places, i) {
-            return i;
-        }
-        i += 1;
-    }
-    i
-}
 
 // Whether there is a j-th wire that leads to a box with an id up to node.
 fn leads_up_to(form: Form, network: &[u8], j: usize, node: u16) -> bool
@@ -83,18 +39,19 @@ fn with_wire(
     network: &[u8],
     list: &[u8],
     rows: &[u16; 65536],
-    places: &[u16; 1024],
+    there: &[u8; 1024],
+    fields: &[u64; 1024],
     j: usize,
     node: u16,
     due: Route,
 ) -> Route
-    requires { ⌜ Ready form (now network) (now list) (now rows) (now places) × (j < edgeCount (now network)) ⌝ }
+    requires { ⌜ Ready form (now network) (now list) (now rows) × Kept form (now network) (now list) (now there) (now fields) (nodeCount (now network)) × (j < edgeCount (now network)) ⌝ }
     ensures { λ r. ⌜ r ≡ withWire form (now (network .entry)) (now (list .entry)) j node due ⌝ }
 {
     if u16_at(network, edge_offset(form, network, j)) != node {
         return due;
     }
-    better(due, offer(form, network, list, rows, places, j))
+    better(due, offer(form, network, list, rows, there, fields, j))
 }
 
 // The first fault by rising id, or a pass. Wires stand by their to end, so that each is looked at once.
@@ -103,9 +60,10 @@ pub fn search(
     network: &[u8],
     list: &[u8],
     rows: &[u16; 65536],
-    places: &[u16; 1024],
+    there: &[u8; 1024],
+    fields: &[u64; 1024],
 ) -> Verdict
-    requires { ⌜ Prepared form (now network) (now list) (now rows) (now places) ⌝ }
+    requires { ⌜ Prepared form (now network) (now list) (now rows) (now there) (now fields) ⌝ }
     ensures { λ r. ⌜ answerOf r ≡ verdictAt form (now (network .entry)) (now (list .entry)) ⌝ }
 {
     let n = wide16(u16_at(network, 5));
@@ -125,10 +83,10 @@ pub fn search(
         let node = node_id(form, network, row);
         let mut due = node_route(form, network, row);
         while leads_up_to(form, network, j, node) {
-            due = with_wire(form, network, list, rows, places, j, node, due);
+            due = with_wire(form, network, list, rows, there, fields, j, node, due);
             j += 1;
         }
-        let held = held_route(form, network, list, places, row);
+        let held = held_route(form, network, list, there, fields, row);
         match fault_at(form, network, row, held, due) {
             Fault::NoFault => {}
             Fault::FaultDue(route) => {

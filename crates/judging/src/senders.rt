@@ -7,20 +7,15 @@ ghost use Rattle.networks.specs.House.{house};
 ghost use Rattle.networks.specs.Judge.{held};
 ghost use Rattle.networks.specs.Solution.{mapping};
 ghost use Rattle.records.specs.Edge.{boxed};
-ghost use Rattle.records.specs.Entries.{entryCount, entryOffset};
-ghost use Rattle.records.specs.Fine.{EntriesFine};
-ghost use Rattle.records.specs.Form.{Usable, listLead};
 ghost use Rattle.records.specs.Layout.{Room, nodeCount, edgeCount, nodeOffset};
 ghost use Rattle.records.specs.Node.{nodeId, isOwn};
 ghost use Rattle.reading.specs.Whole.{readNetwork, readList};
 ghost use Rattle.judging.specs.Judging.{highest};
 ghost use Rattle.judging.specs.Offer.{offerAt};
-ghost use Rattle.judging.specs.Ready.{Listed, Ready};
+ghost use Rattle.judging.specs.Ready.{Listed, Ready, Kept};
 use numbers::u16_at;
 use records::Form;
 use records::edge_offset;
-use records::entry_offset;
-use records::is_own;
 use records::node_offset;
 use records::policy_offset;
 use records::wide;
@@ -29,6 +24,7 @@ use routes::Route;
 use routes::carry;
 use routes::policy_at;
 use routes::route_at;
+use routes::route_in;
 
 // The route of the node in a row: an own box's initial one, or the one that is assumed of an input.
 pub fn node_route(form: Form, network: &[u8], row: usize) -> Route
@@ -39,27 +35,19 @@ pub fn node_route(form: Form, network: &[u8], row: usize) -> Route
     route_at(width, network, node_offset(form, network, row) + 3)
 }
 
-// The route of the k-th entry of a list.
-fn entry_route(form: Form, list: &[u8], k: usize) -> Route
-    requires { ⌜ Usable form × EntriesFine form listLead (now list) × (k < entryCount (now list)) ⌝ }
-    ensures { λ r. ⌜ r ≡ routeAt (form .route) (now (list .entry)) (entryOffset form listLead k + 2) ⌝ }
-{
-    let width = form.route;
-    route_at(width, list, entry_offset(form, 2, k) + 2)
-}
-
 // The listed route of the own box in a row.
 pub fn held_route(
     form: Form,
     network: &[u8],
     list: &[u8],
-    places: &[u16; 1024],
+    there: &[u8; 1024],
+    fields: &[u64; 1024],
     row: usize,
 ) -> Route
-    requires { ⌜ Listed form (now network) (now list) (now places) × (row < nodeCount (now network)) × (isOwn form (now network) row ≡ true) ⌝ }
+    requires { ⌜ Listed form (now network) (now list) × Kept form (now network) (now list) (now there) (now fields) (nodeCount (now network)) × (row < nodeCount (now network)) × (isOwn form (now network) row ≡ true) ⌝ }
     ensures { λ r. ⌜ r ≡ held (house highest) (readList form (now (list .entry))) (nodeId form (now (network .entry)) row) ⌝ }
 {
-    entry_route(form, list, wide16(places[row]))
+    route_in(there[row], fields[row])
 }
 
 // The route of the box with an id: the listed one of an own box, the assumed one of an input.
@@ -68,17 +56,15 @@ fn sender_route(
     network: &[u8],
     list: &[u8],
     rows: &[u16; 65536],
-    places: &[u16; 1024],
+    there: &[u8; 1024],
+    fields: &[u64; 1024],
     id: u16,
 ) -> Route
-    requires { ⌜ Ready form (now network) (now list) (now rows) (now places) × (boxed form (now network) id ≡ true) ⌝ }
+    requires { ⌜ Ready form (now network) (now list) (now rows) × Kept form (now network) (now list) (now there) (now fields) (nodeCount (now network)) × (boxed form (now network) id ≡ true) ⌝ }
     ensures { λ r. ⌜ r ≡ mapping (house highest) (readNetwork form (now (network .entry))) (readList form (now (list .entry))) id ⌝ }
 {
     let row = wide16(rows[id as usize]) - 1;
-    if is_own(form, network, row) {
-        return held_route(form, network, list, places, row);
-    }
-    node_route(form, network, row)
+    route_in(there[row], fields[row])
 }
 
 // What the j-th wire gives the box that it leads to.
@@ -87,14 +73,23 @@ pub fn offer(
     network: &[u8],
     list: &[u8],
     rows: &[u16; 65536],
-    places: &[u16; 1024],
+    there: &[u8; 1024],
+    fields: &[u64; 1024],
     j: usize,
 ) -> Route
-    requires { ⌜ Ready form (now network) (now list) (now rows) (now places) × (j < edgeCount (now network)) ⌝ }
+    requires { ⌜ Ready form (now network) (now list) (now rows) × Kept form (now network) (now list) (now there) (now fields) (nodeCount (now network)) × (j < edgeCount (now network)) ⌝ }
     ensures { λ r. ⌜ r ≡ offerAt form (now (network .entry)) (now (list .entry)) j ⌝ }
 {
     let at = edge_offset(form, network, j);
-    let route = sender_route(form, network, list, rows, places, u16_at(network, at + 2));
+    let route = sender_route(
+        form,
+        network,
+        list,
+        rows,
+        there,
+        fields,
+        u16_at(network, at + 2),
+    );
     let policy = policy_at(network, policy_offset(wide(network[at + 4])));
     carry(65535, policy, route)
 }

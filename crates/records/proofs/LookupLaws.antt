@@ -13,6 +13,7 @@ use Rattle.records.specs.Node.{nodeId, rowOf}
 use Rattle.records.specs.Entries.{EntriesRoom, entryCount, entryOffset, entryId, entryOf}
 use Rattle.records.specs.Ids.{idAt, node-ids, entry-ids}
 use Rattle.records.specs.Offsets.{nodes-room}
+use Rattle.records.specs.RowLaws.{entry-is}
 use Rattle.records.specs.declared.Form.{Form}
 
 module _ (b : List ℕ) (base size n id lo hi : ℕ) where
@@ -65,3 +66,16 @@ module _ (f : Form) (lead : ℕ) (b : List ℕ) (n : ℕ) (c : n ≡ u16At b 5) 
   pub entries-found : (id r : ℕ) → r ≡ place (idAt b 7 (lead + f .route)) id n → r ≡ entryOf f lead b id
   unfolding entryWidth entryOf
   entries-found id r h = rw (c, entry-ids f lead b) at h
+
+  -- an entry that is looked for in a row where it may be
+  module _ (near o : ℕ) (l : near < n) (e : o ≡ entryOffset f lead near) where
+    pub near-room : EntriesRoom f lead b → o + 2 ≤ length b
+    unfolding entryOffset entryWidth
+    near-room r =
+        let whole : at 7 (lead + f .route) n ≤ length b = entries-room r in
+        let k = r .led in
+        omega (arith, at-fits 7 (lead + f .route) near n l)
+
+    pub near-found : (v id : ℕ) → v ≡ u16At b o → v ≡ id → Rising (entryId f lead b) (entryCount b) → near ≡ entryOf f lead b id
+    unfolding entryId
+    near-found v id p q r = sym (entry-is f lead b id near r (rw (← c) l) (rw (← e, ← p) q))

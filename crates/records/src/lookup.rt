@@ -1,6 +1,6 @@
 // The row of a box and of an entry by id, found by halving.
 ghost use mathlib.Core.Path.{_≡_};
-ghost use Prim.Native.Nat.{_+_, _≤_};
+ghost use Prim.Native.Nat.{_+_, _≤_, max};
 ghost use lib.ListN.{length};
 ghost use Rattle.lists.specs.Rising.{Rising, place};
 ghost use Rattle.lists.specs.Stride.{at};
@@ -9,6 +9,7 @@ ghost use Rattle.records.specs.Ids.{idAt};
 ghost use Rattle.records.specs.Layout.{Room, nodeCount};
 ghost use Rattle.records.specs.Node.{nodeId, rowOf};
 use crate::Form;
+use crate::layout::entry_offset;
 use crate::layout::node_part;
 use crate::layout::node_width;
 use crate::layout::stride;
@@ -50,4 +51,29 @@ pub fn entry_of(form: Form, lead: usize, b: &[u8], id: u16) -> usize
     ensures { λ r. ⌜ r ≡ entryOf form lead (now (b .entry)) id ⌝ }
 {
     find(b, 7, lead + form.route, u16_at(b, 5) as usize, id)
+}
+
+// The same, looked for first in a row where it may be: in a list that has the network's boxes, behind the entry before.
+pub fn entry_near(form: Form, lead: usize, b: &[u8], near: usize, id: u16) -> usize
+    requires { ⌜ EntriesRoom form lead (now b) × Rising (entryId form lead (now b)) (entryCount (now b)) ⌝ }
+    ensures { λ r. ⌜ r ≡ entryOf form lead (now (b .entry)) id ⌝ }
+{
+    if u16_at(b, 5) as usize <= near {
+        return entry_of(form, lead, b, id);
+    }
+    if u16_at(b, entry_offset(form, lead, near)) != id {
+        return entry_of(form, lead, b, id);
+    }
+    near
+}
+
+// Where the next entry may be, from where it was thought to be and the row of the one before.
+pub fn row_behind(near: usize, row: u16) -> usize
+    ensures { λ r. ⌜ r ≡ max near (row + 1) ⌝ }
+{
+    let next = row as usize + 1;
+    if near < next {
+        return next;
+    }
+    near
 }

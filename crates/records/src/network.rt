@@ -4,7 +4,7 @@
 // gone through once, and each end of an edge is found by the table from ids to rows.
 ghost use mathlib.Core.Path.{_≡_};
 ghost use Prim.Native.Nat.{_≤_};
-ghost use lib.ListN.{length};
+ghost use lib.ListN.{length, replicate};
 ghost use Rattle.lists.specs.Rising.{Rising};
 ghost use Rattle.records.specs.Form.{Usable, version1};
 ghost use Rattle.records.specs.Layout.{Room, nodeCount};
@@ -51,7 +51,7 @@ fn check_wires(form: Form, b: &[u8], rows: &[u16; 65536]) -> Check
 
 // Numbers 7 to 10.
 fn check_nodes(form: Form, b: &[u8], rows: &mut [u16; 65536]) -> Check
-    requires { ⌜ Room form (now b) ⌝ }
+    requires { ⌜ Room form (now b) × (now rows ≡ replicate 65536 0) ⌝ }
     ensures numbers { λ r. ⌜ checkNumbers r ≡ networkFrom form (now (b .entry)) 7 ⌝ }
     ensures table { λ r. ⌜ RowsAfter form (now (b .entry)) r (now (rows .entry)) (now (rows .exit)) ⌝ }
 {
@@ -69,7 +69,7 @@ fn check_nodes(form: Form, b: &[u8], rows: &mut [u16; 65536]) -> Check
 
 // Numbers 6 to 10.
 fn check_parts(form: Form, b: &[u8], rows: &mut [u16; 65536]) -> Check
-    requires { ⌜ Room form (now b) ⌝ }
+    requires { ⌜ Room form (now b) × (now rows ≡ replicate 65536 0) ⌝ }
     ensures numbers { λ r. ⌜ checkNumbers r ≡ networkFrom form (now (b .entry)) 6 ⌝ }
     ensures table { λ r. ⌜ RowsAfter form (now (b .entry)) r (now (rows .entry)) (now (rows .exit)) ⌝ }
 {
@@ -97,7 +97,7 @@ fn counts_over(form: Form, b: &[u8]) -> bool
 
 // Numbers 3 to 10, and 1 where the record is cut short.
 fn check_counts(form: Form, b: &[u8], rows: &mut [u16; 65536]) -> Check
-    requires { ⌜ Usable form × (10 ≤ length (now b)) ⌝ }
+    requires { ⌜ Usable form × (10 ≤ length (now b)) × (now rows ≡ replicate 65536 0) ⌝ }
     ensures numbers { λ r. ⌜ checkNumbers r ≡ networkFrom form (now (b .entry)) 2 ⌝ }
     ensures table { λ r. ⌜ RowsAfter form (now (b .entry)) r (now (rows .entry)) (now (rows .exit)) ⌝ }
 {
@@ -118,8 +118,10 @@ fn check_counts(form: Form, b: &[u8], rows: &mut [u16; 65536]) -> Check
     check_parts(form, b, rows)
 }
 
-// Checks a network, and fills the table from ids to rows where none of 1 to 8 applies; else the table is as it was.
+// Checks a network, and fills the table from ids to rows, which is lent with zeros, where none of 1 to 8 applies; else the
+// table is as it was.
 pub fn check_network_rows(b: &[u8], rows: &mut [u16; 65536]) -> Check
+    requires { ⌜ now rows ≡ replicate 65536 0 ⌝ }
     ensures numbers { λ r. ⌜ checkNumbers r ≡ networkRefusal (now (b .entry)) ⌝ }
     ensures table { λ r. ⌜ RowsAfter version1 (now (b .entry)) r (now (rows .entry)) (now (rows .exit)) ⌝ }
 {

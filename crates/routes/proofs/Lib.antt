@@ -9,3 +9,4 @@ pub mod OrderLaws
 pub mod WireLaws
 pub mod MetLaws
 pub mod FormLaws
+pub mod PackedLaws

@@ -5,6 +5,7 @@
 mod form;
 mod met;
 mod order;
+mod packed;
 mod wire;
 
 pub use form::all_zero;
@@ -18,6 +19,8 @@ pub use form::route_formed;
 pub use met::is_met;
 pub use order::better;
 pub use order::same;
+pub use packed::packed_at;
+pub use packed::route_in;
 pub use wire::carry;
 
 // A route that is there.

@@ -19,8 +19,8 @@ node-id-requires c κs = search needs
 returns : tie.Need-returns
 returns c = search judging
 
-search-requires : tie.Need-search-requires
-search-requires c κs = search judging
+judge-entered-requires : tie.Need-judge-entered-requires
+judge-entered-requires c κs = search judging
 
 returns-2 : tie.Need-returns-2
 returns-2 c = search judging
@@ -34,5 +34,5 @@ judge-sound-spec =
     wide16-requires
     node-id-requires
     returns
-    search-requires
+    judge-entered-requires
     returns-2)

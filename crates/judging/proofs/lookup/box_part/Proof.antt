@@ -1,6 +1,6 @@
 -- The table from ids to rows has the box's row, the table of entries an own box's entry; each part lies within its record.
 use Rattle.judging.proofs.NeighbourLaws.{box-parts}
-use Rattle.judging.proofs.SenderLaws.{senders}
+use Rattle.judging.proofs.SenderLaws.{senders, sender-room, row-there}
 use borrow.Author.Needs.{needs}
 use Rattle.judging.proofs.lookup.box_part.Statement.{statement}
 use Rattle.judging.proofs.lookup.box_part.Tie as tie
@@ -18,7 +18,7 @@ sub-row : tie.Need-sub-row
 sub-row c = search (needs, senders)
 
 is-own-requires : tie.Need-is-own-requires
-is-own-requires c κs = search senders
+is-own-requires c κs = (search sender-room, search row-there)
 
 mul-wide16-2 : tie.Need-mul-wide16-2
 mul-wide16-2 c = search needs
@@ -42,7 +42,7 @@ returns : tie.Need-returns
 returns c = search box-parts
 
 node-offset-requires : tie.Need-node-offset-requires
-node-offset-requires c κs = search (needs, senders)
+node-offset-requires c κs = search (needs, sender-room, row-there)
 
 add-route-part-2 : tie.Need-add-route-part-2
 add-route-part-2 c = search needs

@@ -1,4 +1,4 @@
--- The table from ids to rows has the sender's row; an own box holds what is listed, an input what is assumed.
+-- The table from ids to rows has the sender's row, and the tables of routes what it holds (sender-is).
 use Rattle.judging.proofs.SenderLaws.{senders}
 use borrow.Author.Needs.{needs}
 use Rattle.judging.proofs.senders.sender_route.Statement.{statement}
@@ -16,20 +16,20 @@ wide16-requires c κs = search needs
 sub-row : tie.Need-sub-row
 sub-row c = search (needs, senders)
 
-is-own-requires : tie.Need-is-own-requires
-is-own-requires c κs = search senders
+element-copy-out-route-in : tie.Need-element-copy-out-route-in
+element-copy-out-route-in c = search (needs, senders)
 
-held-route-requires : tie.Need-held-route-requires
-held-route-requires c κs = search senders
+mul-route-in : tie.Need-mul-route-in
+mul-route-in c = search needs
+
+element-copy-out-route-in-2 : tie.Need-element-copy-out-route-in-2
+element-copy-out-route-in-2 c = search (needs, senders)
+
+route-in-requires : tie.Need-route-in-requires
+route-in-requires c κs = search needs
 
 returns : tie.Need-returns
 returns c = search senders
-
-node-route-requires : tie.Need-node-route-requires
-node-route-requires c κs = search senders
-
-returns-2 : tie.Need-returns-2
-returns-2 c = search senders
 
 pub sender-route-spec : {M : Type 1} → statement M
 sender-route-spec =
@@ -39,8 +39,8 @@ sender-route-spec =
     element-copy-out-wide16
     wide16-requires
     sub-row
-    is-own-requires
-    held-route-requires
-    returns
-    node-route-requires
-    returns-2)
+    element-copy-out-route-in
+    mul-route-in
+    element-copy-out-route-in-2
+    route-in-requires
+    returns)

@@ -48,7 +48,7 @@ returns-4 c = (search counts, refl)
 
 -- src/network.rt:118:5
 check-parts-requires : tie.Need-check-parts-requires
-check-parts-requires c κs = record { usable = search needs; long = search needs; few = search few-nodes; whole = search needs }
+check-parts-requires c κs = (record { usable = search needs; long = search needs; few = search few-nodes; whole = search needs }, search needs)
 
 -- src/network.rt:99:1
 returns-5 : tie.Need-returns-5

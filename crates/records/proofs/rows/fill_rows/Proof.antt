@@ -6,17 +6,12 @@ use Rattle.records.proofs.rows.fill_rows.Reads as reads
 use Rattle.records.proofs.rows.fill_rows.Lts as lts
 use Rattle.numbers.proofs.u16_at.Reads as u16-at-reads
 use Rattle.records.proofs.nodes.node_id.Reads as node-id-reads
-use Rattle.records.proofs.rows.clear.Reads as clear-reads
 
 abbrev Inv-loop : tie.InvT-loop
 Inv-loop form b rows₀ i₀ rows i = Filling form b i rows
 
 abbrev μ-loop : tie.MeasureT-loop
 μ-loop form b rows₀ i₀ rows i = i
-
--- src/rows.rt:23:5
-clear-requires : tie.Need-clear-requires Inv-loop μ-loop
-clear-requires c κs = search needs
 
 -- src/rows.rt:24:17
 u16-at-requires : tie.Need-u16-at-requires Inv-loop μ-loop
@@ -76,7 +71,6 @@ fill-rows-spec =
     (tie.spec
     Inv-loop
     μ-loop
-    clear-requires
     u16-at-requires
     cast-i
     loop-holds

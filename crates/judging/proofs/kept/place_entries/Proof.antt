@@ -3,14 +3,14 @@ use native.Mathlib.Omega.{arith}
 use Prim.Native.Nat.{_-_}
 use Rattle.judging.proofs.PlaceLaws.{Placing, placing}
 use borrow.Author.Needs.{needs}
-use Rattle.judging.proofs.search.place_entries.Statement.{statement}
-use Rattle.judging.proofs.search.place_entries.Tie as tie
+use Rattle.judging.proofs.kept.place_entries.Statement.{statement}
+use Rattle.judging.proofs.kept.place_entries.Tie as tie
 
 abbrev Inv-loop : tie.InvT-loop
-Inv-loop form network list places₀ n i₀ places i = Placing form network list n i places
+Inv-loop form network list places₀ n i₀ near₀ places i near = Placing form network list n i places
 
 abbrev μ-loop : tie.MeasureT-loop
-μ-loop form network list places₀ n i₀ places i = n - i
+μ-loop form network list places₀ n i₀ near₀ places i near = n - i
 
 u16-at-requires : tie.Need-u16-at-requires Inv-loop μ-loop
 u16-at-requires c κs = search (needs, placing)
@@ -26,6 +26,15 @@ place-entry-requires c κs = search (needs, placing)
 
 returns : tie.Need-returns Inv-loop μ-loop
 returns c = (search placing, (search placing, λ i. omega (arith, c .before .before .before .before .before .before .before .before .shared-slice-known .given i)))
+
+mul-row-behind : tie.Need-mul-row-behind Inv-loop μ-loop
+mul-row-behind c = search (needs, placing)
+
+element-copy-out-row-behind : tie.Need-element-copy-out-row-behind Inv-loop μ-loop
+element-copy-out-row-behind c = search (needs, placing)
+
+row-behind-requires : tie.Need-row-behind-requires Inv-loop μ-loop
+row-behind-requires c κs = search (needs, placing)
 
 add-i : tie.Need-add-i Inv-loop μ-loop
 add-i c = search (needs, placing)
@@ -50,6 +59,9 @@ place-entries-spec =
     loop-holds
     place-entry-requires
     returns
+    mul-row-behind
+    element-copy-out-row-behind
+    row-behind-requires
     add-i
     loop-less
     loop-again

@@ -1,8 +1,8 @@
 -- One law for each way: an input, an own box without an entry, an own box with one.
 use Rattle.judging.proofs.PlaceLaws.{placing-one}
 use borrow.Author.Needs.{needs}
-use Rattle.judging.proofs.search.place_entry.Statement.{statement}
-use Rattle.judging.proofs.search.place_entry.Tie as tie
+use Rattle.judging.proofs.kept.place_entry.Statement.{statement}
+use Rattle.judging.proofs.kept.place_entry.Tie as tie
 
 is-own-requires : tie.Need-is-own-requires
 is-own-requires c κs = search (needs, placing-one)
@@ -13,8 +13,8 @@ returns c = search (needs, placing-one)
 node-id-requires : tie.Need-node-id-requires
 node-id-requires c κs = search (needs, placing-one)
 
-entry-of-requires : tie.Need-entry-of-requires
-entry-of-requires c κs = search (needs, placing-one)
+entry-near-requires : tie.Need-entry-near-requires
+entry-near-requires c κs = search (needs, placing-one)
 
 u16-at-requires : tie.Need-u16-at-requires
 u16-at-requires c κs = search (needs, placing-one)
@@ -44,7 +44,7 @@ place-entry-spec =
     is-own-requires
     returns
     node-id-requires
-    entry-of-requires
+    entry-near-requires
     u16-at-requires
     wide16-requires
     returns-2
