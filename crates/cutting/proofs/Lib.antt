@@ -12,4 +12,5 @@ pub mod LayLaws
 pub mod RecordLaws
 pub mod AnswerLaws
 pub mod CheckLaws
+pub mod RefusalLaws
 pub mod TextLaws
