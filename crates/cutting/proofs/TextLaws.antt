@@ -1,112 +1,47 @@
 -- The cutting program's output.
---     network-low, sheet-low, cut-low     no refusal but that of the room has number 20
---     fragment-outputs                    the output of each answer of the cutter
---     cut-texts                           an input that is too long, one without a rest, and one with a fragment asked
---     text-fits, text-read                a buffer of 35,146 bytes is long enough for every output
+--     fragment-outputs         the output of each answer of the cutter
+--     cut-texts                an input that is too long, one without a rest, and one with a fragment asked
+--     text-fits, text-read     a buffer of 35,146 bytes is long enough for every output
 use mathlib.Core.Path.{_≡_, refl, sym, ap, _∙_}
-use mathlib.Core.Bool.{Bool, true, false, cond, not, _||_}
-use mathlib.Core.List.{List, [], _∷_}
-use mathlib.Core.Option.{Option, none, some}
+use mathlib.Core.Bool.{Bool, true, false, cond}
+use mathlib.Core.List.{List, []}
 use Prim.Native.Nat.{ℕ, _+_, _-_, _≤_, _<_}
 use native.Mathlib.Nat.{sub-zero, add-zero}
 use native.Mathlib.Omega.{arith}
-use lib.Dec.{eqb, leb, ltb}
-use lib.ListN.{length, getD, take, drop, length-drop, drop-of-length-le}
+use lib.Dec.{leb}
+use lib.ListN.{length, getD, take, drop, drop-of-length-le}
 use lib.Seq.{take-all, drop-drop, getD-drop}
-use borrow.Author.Tests.{ltb-true, eqb-true}
-use Rattle.lists.specs.All.{all, any}
 use Rattle.lists.specs.Laid.{placed}
 use Rattle.lists.specs.Rows.{length-rows}
-use Rattle.lists.specs.Test.{firstOf, and-l, and-r}
 use Rattle.routes.specs.Form.{policyAt}
-use Rattle.networks.specs.Answer.{Answer, given, refused, refuse, lowest, unentered}
-use Rattle.networks.specs.Cut.{only, fragment, numbered, clashes, cut}
+use Rattle.networks.specs.Answer.{Answer, given, refused}
+use Rattle.networks.specs.Cut.{only, fragment, cut}
 use Rattle.networks.specs.House.{house}
-use Rattle.networks.specs.Network.{ownBoxes}
-use Rattle.networks.specs.Sheets.{note}
 use Rattle.networks.proofs.Laws.Answers.{given-same, refused-given, refused-number}
 use Rattle.networks.proofs.Laws.Cutting.{cut-given}
 use Rattle.networks.proofs.Laws.Soundness.{fragment-less}
-use Rattle.records.specs.Entries.{entriesTable, entriesRefusal, sheetRefusal}
+use Rattle.records.specs.Entries.{sheetRefusal}
 use Rattle.records.specs.Fine.{NetworkFine, network-fine}
-use Rattle.records.specs.Form.{version1, sheetLead, nodeWidth, entryWidth}
+use Rattle.records.specs.Form.{version1, nodeWidth, entryWidth}
 use Rattle.records.specs.Layout.{nodeCount, edgeCount, policyCount, nodePart, edgePart}
-use Rattle.records.specs.Network.{networkTable, networkRefusal}
-use Rattle.records.specs.Numbers.{Numbers, numbersOf, fine}
+use Rattle.records.specs.Network.{networkRefusal}
+use Rattle.records.specs.Numbers.{numbersOf}
 use Rattle.records.specs.declared.Refusal.{Refusal}
 use Rattle.reading.specs.Parts.{boxAt, wireAt}
 use Rattle.reading.specs.Largest.{largestNetwork, largestEntries}
-use Rattle.reading.specs.Whole.{HouseNetwork, HouseSheet, readNetwork, readSheet, writeNetwork}
+use Rattle.reading.specs.Whole.{HouseNetwork, readNetwork, readSheet, writeNetwork}
 use Rattle.reading.proofs.Lengths.{network-short}
 use Rattle.lines.specs.Split.{firstLength, firstRecord, restOf}
 use Rattle.lines.specs.Line.{refusedLine}
 use Rattle.lines.proofs.Answers.{bound-over, bound-kept, bound-short, answer-read}
 use Rattle.lines.proofs.Lengths.{refused-length}
+use Rattle.lines.proofs.Splits.{rest-lent}
 use Rattle.cutting.specs.Answers.{answerOf}
-use Rattle.reading.specs.Refused.{unless}
 use Rattle.cutting.specs.Cutting.{cutSaid, cutNetwork, recordAnswer, cutRecords, laidAnswer, cutBuffer}
 use Rattle.cutting.specs.Text.{cutOutput, askedOf, sheetOf, cutBound, cutText}
 use Rattle.cutting.specs.declared.CutAnswer.{CutAnswer}
 use Rattle.cutting.specs.declared.CutAnswer.the-variants.{Done, Refused}
-
--- a test of every row of a table, and of no refusal, holds of the first that applies
-first-meets : (test : Numbers → Bool) (rows : List (Bool × Numbers)) → test fine ≡ true → all (λ (row : Bool × Numbers). test (row .1)) rows ≡ true
-    → test (firstOf rows fine) ≡ true
-first-meets test [] f h = f
-first-meets test (row ∷ rows) f h = go (row .0) (first-meets test rows f (and-r (test (row .1)) (all (λ (r : Bool × Numbers). test (r .1)) rows) h))
-  where
-    go : (t : Bool) → test (firstOf rows fine) ≡ true → test (cond t (row .1) (firstOf rows fine)) ≡ true
-    go true r = and-l (test (row .1)) (all (λ (r : Bool × Numbers). test (r .1)) rows) h
-    go false r = r
-
-below20 : Numbers → Bool
-below20 n = ltb (n .number) 20
-
-network-low : (b : List ℕ) → networkRefusal b .number < 20
-unfolding networkRefusal below20
-network-low b = ltb-true (networkRefusal b .number) 20 (first-meets below20 (networkTable version1 b) refl refl)
-
-sheet-low : (b : List ℕ) → sheetRefusal b .number < 20
-unfolding entriesRefusal below20
-sheet-low b = ltb-true (sheetRefusal b .number) 20 (first-meets below20 (entriesTable version1 sheetLead b) refl refl)
-
--- number 0 is no refusal
-network-zero : (b : List ℕ) → networkRefusal b .number ≡ 0 → networkRefusal b ≡ fine
-unfolding networkRefusal
-network-zero b e =
-    let t = first-meets (λ (n : Numbers). not (eqb (n .number) 0) || eqb (n .place) 0) (networkTable version1 b) refl refl in
-    let p : networkRefusal b .place ≡ 0 = eqb-true (networkRefusal b .place) 0 (rw e at t) in
-    λ i. record { number = e i; place = p i }
-
--- what holds of a refusal, and of the answer where nothing is refused
-unless-is : {A : Type 0} (P : Answer A → Type 0) (n : Numbers) (a : Answer A) → P (refused (n .number) (n .place)) → (n .number ≡ 0 → P a) → P (unless n a)
-unless-is P n a r h = go (eqb (n .number) 0) refl
-  where
-    go : (t : Bool) → eqb (n .number) 0 ≡ t → P (cond t a (refused (n .number) (n .place)))
-    go true e = h (eqb-true (n .number) 0 e)
-    go false e = r
-
--- an answer that is no refusal with number 20
-abbrev Low : {A : Type 0} → Answer A → Type 0
-Low (given x) = Unit {0}
-Low (refused number place) = number < 20
-
-said-low : (N : HouseNetwork) (S : HouseSheet) (k : ℕ) → Low (cut (house 65535) N S k)
-unfolding cut
-said-low N S k = go (unentered N (note S)) (cond (any (numbered N S k) (ownBoxes N)) none (some k)) (lowest (clashes (house 65535) N S) (ownBoxes N))
-  where
-    go : (x y z : Option ℕ) → Low (refuse 17 x (refuse 18 y (refuse 19 z (given (fragment N S k)))))
-    go (some x) y z = omega arith
-    go none (some y) z = omega arith
-    go none none (some z) = omega arith
-    go none none none = tt
-
-cut-low : (network sheet : List ℕ) (k : ℕ) → Low (cutNetwork network sheet k)
-unfolding cutNetwork cutSaid
-cut-low network sheet k =
-    unless-is Low (networkRefusal network) _ (network-low network) (λ e.
-    unless-is Low (sheetRefusal sheet) _ (sheet-low sheet) (λ d.
-    said-low (readNetwork version1 network) (readSheet version1 sheet) k))
+use Rattle.cutting.proofs.RefusalLaws.{network-zero, unless-is, Low, cut-low}
 
 -- the output, by what the cutter answered with this room: the fragment's length, 20 with that length, or another refusal
 module _ (room : ℕ) where
@@ -215,18 +150,16 @@ module _ (input : List ℕ) where
 
     pub text-restless : first ≡ length input → cutOutput (cutNetwork input (take (length input - first) (drop first input)) 0) ≡ cutText input
     text-restless q =
-        let none : drop first input ≡ [] = drop-of-length-le input {i = first} (omega arith) in
-        let rest : restOf input ≡ [] = ap (λ (i : ℕ). drop i input) (sym e) ∙ none in
-        let all : take (length input - first) (drop first input) ≡ drop first input = take-all (length input - first) (drop first input) (simp length-drop (omega arith)) in
-        said input (take (length input - first) (drop first input)) 0 (sym (take-all (firstLength input) input (omega arith))) (all ∙ none ∙ rw rest) (rw rest)
+        let empty : drop first input ≡ [] = drop-of-length-le input {i = first} (omega arith) in
+        let rest : restOf input ≡ [] = ap (λ (i : ℕ). drop i input) (sym e) ∙ empty in
+        said input (take (length input - first) (drop first input)) 0 (sym (take-all (firstLength input) input (omega arith))) (rest-lent input first ∙ empty ∙ rw rest) (rw rest)
 
     pub text-asked : (behind : ℕ) → (first ≡ length input → ⊥) → first ≤ length input → behind ≡ first + 1
         → cutOutput (cutNetwork (take (first - 0) (drop 0 input)) (take (length input - behind) (drop behind input)) (getD input first 0)) ≡ cutText input
     text-asked behind u l q =
-        let all : take (length input - behind) (drop behind input) ≡ drop behind input = take-all (length input - behind) (drop behind input) (simp length-drop (omega arith)) in
         said (take (first - 0) (drop 0 input)) (take (length input - behind) (drop behind input)) (getD input first 0)
         (rw (sub-zero, e))
-        (all ∙ rw (q, e) (sym (drop-drop 1 (firstLength input) input)))
+        (rest-lent input behind ∙ rw (q, e) (sym (drop-drop 1 (firstLength input) input)))
         (rw (e, getD-drop, add-zero))
 
 pub ruleset cut-texts = (text-over, text-restless, text-asked)

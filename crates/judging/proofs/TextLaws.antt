@@ -1,15 +1,15 @@
 -- The judging program's text.
---     finding-line       a finding's line
---     verdict-lines      the line of each verdict
---     judge-texts        an input that is too long, and one that is judged
+--     finding-line             a finding's line
+--     verdict-lines            the line of each verdict
+--     judge-texts              an input that is too long, and one that is judged
 --     line-fits, line-read     a buffer of 153 bytes is long enough for every line
 use mathlib.Core.Path.{_≡_, refl, ap, _∙_}
 use mathlib.Core.List.{List}
 use Prim.Native.Nat.{ℕ, _-_, _≤_, _<_}
 use native.Mathlib.Nat.{sub-zero}
 use native.Mathlib.Omega.{arith}
-use lib.ListN.{length, take, drop, length-drop}
-use lib.Seq.{take-all}
+use lib.ListN.{length, take, drop}
+use Rattle.lists.specs.Laid.{placed}
 use Rattle.routes.specs.declared.Route.{Route}
 use Rattle.networks.specs.Answer.{Answer, given, refused}
 use Rattle.networks.specs.Judge.{Verdict as Judged, pass, found}
@@ -19,8 +19,8 @@ use Rattle.records.specs.declared.Refusal.{Refusal}
 use Rattle.reading.specs.Largest.{largestNetwork, largestEntries}
 use Rattle.lines.specs.Split.{firstLength, firstRecord, restOf}
 use Rattle.lines.specs.Line.{passLine, refusedLine, foundLine}
-use Rattle.lists.specs.Laid.{placed}
 use Rattle.lines.proofs.Answers.{bound-over, bound-kept, bound-short, answer-read}
+use Rattle.lines.proofs.Splits.{rest-lent}
 use Rattle.lines.proofs.Lengths.{pass-length, refused-length, found-length}
 use Rattle.judging.specs.Answers.{answerOf}
 use Rattle.judging.specs.Judging.{judgeRecords}
@@ -72,8 +72,7 @@ module _ (input : List ℕ) where
       → verdictLine (answerOf v) ≡ judgeText input
   unfolding judgeText
   text-judged first v h e l q =
-      let rest : take (length input - first) (drop first input) ≡ drop first input = take-all (length input - first) (drop first input) (simp length-drop (omega arith)) in
-      let a : answerOf v ≡ judgeRecords (firstRecord input) (restOf input) = q ∙ (rw (sub-zero, rest, e)) in
+      let a : answerOf v ≡ judgeRecords (firstRecord input) (restOf input) = q ∙ (rw (sub-zero, rest-lent, e)) in
       ap verdictLine a ∙ rw bound-is (bound-kept 40785 input _ h)
 
 pub ruleset judge-texts = (text-over, text-judged)

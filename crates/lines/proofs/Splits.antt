@@ -1,13 +1,13 @@
--- What the split of an input gives: never more than the input, and of a record with bytes behind it that record.
+-- What the split of an input gives: never more than the input, and of a record with bytes behind it that record. A rest as it is lent.
 use mathlib.Core.Path.{_≡_, ap, _∙_}
 use mathlib.Core.Bool.{Bool, true, false, cond}
 use mathlib.Core.List.{List, _++_}
-use Prim.Native.Nat.{ℕ, _+_, _≤_, _<_, min}
+use Prim.Native.Nat.{ℕ, _+_, _-_, _≤_, _<_, min}
 use native.Mathlib.Nat.{min-le-right, min-eq-left}
 use native.Mathlib.Omega.{arith}
 use lib.Dec.{ltb}
-use lib.ListN.{length, getD, take, drop, length-append, List·getD-append}
-use lib.Seq.{take-append-seam, drop-append-seam}
+use lib.ListN.{length, getD, take, drop, length-append, length-drop, List·getD-append}
+use lib.Seq.{take-all, take-append-seam, drop-append-seam}
 use borrow.Author.Tests.{le-ltb}
 use Rattle.numbers.specs.BigEndian.{u16At, u32At}
 use Rattle.lines.specs.Split.{firstLength, firstRecord, restOf}
@@ -19,6 +19,10 @@ first-within input = go (ltb (length input) 4)
     go : (t : Bool) → cond t (length input) (min (u32At input 0 + 4) (length input)) ≤ length input
     go true = omega arith
     go false = min-le-right (u32At input 0 + 4) (length input)
+
+-- what is lent from an offset on
+pub rest-lent : (input : List ℕ) (at : ℕ) → take (length input - at) (drop at input) ≡ drop at input
+rest-lent input at = take-all (length input - at) (drop at input) (simp length-drop (omega arith))
 
 -- a record that is as long as its length field says
 module _ (r s : List ℕ) (long : 4 ≤ length r) (e : u32At r 0 + 4 ≡ length r) where
