@@ -2,7 +2,7 @@
 --     cut-said                        records that are not refused are cut by what they say
 --     cut-fragment, cut-sound         what is given is the fragment, and a sound network
 --     record-fine, record-read, record-small     its record is not refused, says the fragment, and is bytes: so it can be judged, and cut again
---     record-shorter, record-largest  its record is no longer than the network's, and than 35,146 bytes
+--     record-shorter, record-largest  its record is no longer than the network's, and than the largest
 --     one-record                      all own boxes in one fragment: the record is the network's own bytes
 --     cut-laid, cut-short, cut-kept   the buffer with room, without, and on every refusal
 --     room-refuses, cut-refuses       a refusal: the network's, else the sheet's, else 17, 18 or 19, else 20
@@ -33,11 +33,13 @@ use Rattle.networks.proofs.OneFragment.{one-fragment}
 use Rattle.networks.proofs.Refusals as refusals
 use Rattle.records.specs.Entries.{sheetRefusal}
 use Rattle.records.specs.Fine.{network-fine}
-use Rattle.records.specs.Form.{version1, sheetLead}
+use Rattle.records.specs.Form.{nodeWidth, version1, sheetLead}
 use Rattle.records.specs.Network.{networkRefusal}
 use Rattle.records.specs.Numbers.{fine}
+use Rattle.reading.specs.Largest.{largestNetwork}
 use Rattle.reading.specs.Whole.{HouseNetwork, HouseSheet, bounds, readNetwork, readSheet, writeNetwork}
-use Rattle.reading.proofs.Bridges.{read-network, write-network, network-length, within-largest, network-small}
+use Rattle.reading.proofs.Bridges.{read-network, write-network, network-small}
+use Rattle.reading.proofs.Lengths.{network-length, within-largest}
 use Rattle.reading.proofs.Fits.{network-fits, sheet-fits, fragment-fits}
 use Rattle.reading.proofs.NetworkBytes.{NetworkFits}
 use Rattle.reading.proofs.Refused.{no-network, no-entries, unless-fine, unless-given, unless-refused}
@@ -78,18 +80,19 @@ module _ (network sheet : List ℕ) (k : ℕ) where
       cut-sound = kept .0
 
       pub record-shorter : length (writeNetwork version1 F) ≤ length network
+      unfolding nodeWidth
       record-shorter =
           let less = kept .1 in
           let boxes = less .boxes in
           let wires = less .wires in
           let policies = less .policies in
-          let f = network-length F in
-          let n = network-length N in
+          let f = network-length version1 (omega arith) F in
+          let n = network-length version1 (omega arith) N in
           let b : length (writeNetwork version1 N) ≡ length network = ap length ((read-network network small ((said F e) .0)) .1) in
           omega arith
 
-      pub record-largest : length (writeNetwork version1 F) ≤ 35146
-      record-largest = within-largest F cut-sound
+      pub record-largest : length (writeNetwork version1 F) ≤ largestNetwork version1
+      record-largest = within-largest version1 (omega arith) F cut-sound
 
       module _ (sheet-small : Bytes sheet) where
         cut-fits : NetworkFits F

@@ -1,15 +1,13 @@
 -- The numbers of the cutter's refusals.
---     network-zero     number 0 is no refusal
---     unless-is        what holds of a refusal, and of the answer where nothing is refused
 --     cut-low          number 20 is refused for want of room alone
 use mathlib.Core.Path.{_≡_, refl}
-use mathlib.Core.Bool.{Bool, true, false, cond, not, _||_}
+use mathlib.Core.Bool.{Bool, true, false, cond}
 use mathlib.Core.List.{List, [], _∷_}
 use mathlib.Core.Option.{Option, none, some}
 use Prim.Native.Nat.{ℕ, _<_}
 use native.Mathlib.Omega.{arith}
-use lib.Dec.{eqb, ltb}
-use borrow.Author.Tests.{ltb-true, eqb-true}
+use lib.Dec.{ltb}
+use borrow.Author.Tests.{ltb-true}
 use Rattle.lists.specs.All.{all, any}
 use Rattle.lists.specs.Test.{firstOf, and-l, and-r}
 use Rattle.networks.specs.Answer.{Answer, given, refused, refuse, lowest, unentered}
@@ -22,7 +20,8 @@ use Rattle.records.specs.Form.{version1, sheetLead}
 use Rattle.records.specs.Network.{networkTable, networkRefusal}
 use Rattle.records.specs.Numbers.{Numbers, fine}
 use Rattle.reading.specs.Whole.{HouseNetwork, HouseSheet, readNetwork, readSheet}
-use Rattle.cutting.specs.Cutting.{unless, cutSaid, cutNetwork}
+use Rattle.reading.proofs.Refused.{unless-is}
+use Rattle.cutting.specs.Cutting.{cutSaid, cutNetwork}
 
 -- a test of every row of a table, and of no refusal, holds of the first that applies
 first-meets : (test : Numbers → Bool) (rows : List (Bool × Numbers)) → test fine ≡ true → all (λ (row : Bool × Numbers). test (row .1)) rows ≡ true
@@ -45,22 +44,6 @@ network-low b = ltb-true (networkRefusal b .number) 20 (first-meets below20 (net
 sheet-low : (b : List ℕ) → sheetRefusal b .number < 20
 unfolding entriesRefusal below20
 sheet-low b = ltb-true (sheetRefusal b .number) 20 (first-meets below20 (entriesTable version1 sheetLead b) refl refl)
-
--- number 0 is no refusal
-pub network-zero : (b : List ℕ) → networkRefusal b .number ≡ 0 → networkRefusal b ≡ fine
-unfolding networkRefusal
-network-zero b e =
-    let t = first-meets (λ (n : Numbers). not (eqb (n .number) 0) || eqb (n .place) 0) (networkTable version1 b) refl refl in
-    let p : networkRefusal b .place ≡ 0 = eqb-true (networkRefusal b .place) 0 (rw e at t) in
-    λ i. record { number = e i; place = p i }
-
--- what holds of a refusal, and of the answer where nothing is refused
-pub unless-is : {A : Type 0} (P : Answer A → Type 0) (n : Numbers) (a : Answer A) → P (refused (n .number) (n .place)) → (n .number ≡ 0 → P a) → P (unless n a)
-unless-is P n a r h = go (eqb (n .number) 0) refl
-  where
-    go : (t : Bool) → eqb (n .number) 0 ≡ t → P (cond t a (refused (n .number) (n .place)))
-    go true e = h (eqb-true (n .number) 0 e)
-    go false e = r
 
 -- an answer that is no refusal with number 20
 abbrev pub Low : {A : Type 0} → Answer A → Type 0

@@ -31,6 +31,7 @@ use Rattle.reading.specs.Parts.{boxAt, wireAt}
 use Rattle.reading.specs.Largest.{largestNetwork, largestEntries}
 use Rattle.reading.specs.Whole.{HouseNetwork, readNetwork, readSheet, writeNetwork}
 use Rattle.reading.proofs.Lengths.{network-short}
+use Rattle.reading.proofs.Refused.{no-network, unless-is}
 use Rattle.lines.specs.Split.{firstLength, firstRecord, restOf}
 use Rattle.lines.specs.Line.{refusedLine}
 use Rattle.lines.proofs.Answers.{bound-over, bound-kept, bound-short, answer-read}
@@ -41,7 +42,7 @@ use Rattle.cutting.specs.Cutting.{cutSaid, cutNetwork, recordAnswer, cut
 use Rattle.cutting.specs.Text.{cutOutput, askedOf, sheetOf, cutBound, cutText}
 use Rattle.cutting.specs.declared.CutAnswer.{CutAnswer}
 use Rattle.cutting.specs.declared.CutAnswer.the-variants.{Done, Refused}
-use Rattle.cutting.proofs.RefusalLaws.{network-zero, unless-is, Low, cut-low}
+use Rattle.cutting.proofs.RefusalLaws.{Low, cut-low}
 
 -- the output, by what the cutter answered with this room: the fragment's length, 20 with that length, or another refusal
 module _ (room : ℕ) where
@@ -201,7 +202,7 @@ unfolding cutNetwork
 output-short network sheet k =
     unless-is Short (networkRefusal network) _ (refused-short _ _) (λ e.
     unless-is Short (sheetRefusal sheet) _ (refused-short _ _) (λ d.
-    said-short network sheet k (network-fine network (network-zero network e))))
+    said-short network sheet k (network-fine network (no-network network e))))
 
 module _ (input : List ℕ) (r : ℕ) (q : r ≡ length (cutText input)) where
   text-short : length (cutText input) ≤ 35146

@@ -1,6 +1,6 @@
 // The cutter's entry point: the refusals in their order, and then the record.
 ghost use mathlib.Core.Path.{_≡_};
-ghost use Prim.Native.Nat.{_≤_, _<_};
+ghost use Prim.Native.Nat.{_<_};
 ghost use lib.ListN.{length};
 ghost use Rattle.lists.specs.Gather.{count};
 ghost use Rattle.lists.specs.Laid.{placed};

@@ -14,7 +14,7 @@ use native.Mathlib.Numerals.{add-one}
 use native.Mathlib.Omega.{arith}
 use lib.ListN.{length, take, drop, length-append}
 use Rattle.lists.specs.Filter.{holds}
-use Rattle.lists.specs.Laid.{over, over-none, length-over, Laid, lend-fits, laid-put, laid-done}
+use Rattle.lists.specs.Laid.{over, over-none, Laid, lend-fits, laid-put, laid-done}
 use Rattle.lists.specs.Rows.{rows, laidRows}
 use Rattle.lists.specs.Stride.{at, at-zero, at-shift}
 

@@ -2,7 +2,7 @@
 --     sets-append, stored-on, stored-again     a run behind a run, and one byte more of equal ones
 --     stored-over                              a run at the start
 --     copy-over, copy-stored                   a copy over the start, and one into a rest that is lent
-use mathlib.Core.Path.{_≡_, refl, sym, ap, _∙_}
+use mathlib.Core.Path.{_≡_, sym, ap, _∙_}
 use mathlib.Core.List.{List, [], _∷_, _++_, append-assoc}
 use Prim.Native.Nat.{ℕ, suc, _+_, _-_, _≤_}
 use native.Mathlib.Nat.{add-zero, add-suc, suc-add, zero-add}

@@ -19,6 +19,7 @@ use Rattle.records.specs.Entries.{listRefusal}
 use Rattle.records.specs.Form.{version1}
 use Rattle.records.specs.Network.{networkRefusal}
 use Rattle.records.specs.Numbers.{fine}
+use Rattle.reading.specs.Largest.{largestNetwork}
 use Rattle.reading.specs.Whole.{HouseNetwork, bounds, writeNetwork}
 use Rattle.judging.proofs.OnBytes.{judge-said}
 use Rattle.cutting.specs.Cutting.{cutNetwork}
@@ -41,11 +42,11 @@ module _ (network list : List ℕ) (n : networkRefusal network ≡ fine) (l : li
 
 -- a buffer with room
 blank : List ℕ
-blank = replicate 35146 0
+blank = replicate (largestNetwork version1) 0
 
 blank-roomy : Roomy blank
 unfolding blank
-blank-roomy = let e = length-replicate {A = ℕ} 35146 0 in omega arith
+blank-roomy = let e = length-replicate {A = ℕ} (largestNetwork version1) 0 in omega arith
 
 module _ (network sheet list : List ℕ) (small : Bytes network) (sheet-small : Bytes sheet) (l : listRefusal list ≡ fine) (k : ℕ) (G : HouseNetwork)
     (e : cutNetwork network sheet k ≡ given G) where

@@ -14,6 +14,7 @@ use Rattle.networks.specs.Answer.{Answer, given, refused, andThen}
 use Rattle.networks.specs.House.{house}
 use Rattle.networks.specs.Judge.{pass}
 use Rattle.records.specs.Form.{version1}
+use Rattle.reading.specs.Largest.{largestNetwork}
 use Rattle.reading.specs.Whole.{HouseNetwork, HouseSheet, HouseList, readNetwork, readSheet, readList}
 use Rattle.judging.specs.Judging.{judgeRecords}
 use Rattle.cutting.specs.Cutting.{cutRecords, cutBuffer}
@@ -38,7 +39,7 @@ unfoldable pub cutInto : List ℕ → List ℕ → ℕ → List ℕ → Answer (
 cutInto network sheet k out = andThen (cutRecords network sheet k (length out)) (λ (n : ℕ). given (take n (cutBuffer network sheet k out)))
 
 abbrev pub Roomy : List ℕ → Type 0
-Roomy out = 35146 ≤ length out
+Roomy out = largestNetwork version1 ≤ length out
 
 -- Cutting by the sheet can meet no refusal but 18 and 20, whatever fragment is asked, by a byte, and whatever the room.
 abbrev pub SheetCuts : List ℕ → List ℕ → Type 0

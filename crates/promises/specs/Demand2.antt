@@ -20,7 +20,9 @@ use Rattle.networks.specs.Sheets.{number, listed}
 use Rattle.networks.specs.Solution.{mapping, Solution, Demands}
 use Rattle.records.specs.Entries.{listRefusal}
 use Rattle.records.specs.Network.{networkRefusal}
+use Rattle.records.specs.Form.{version1}
 use Rattle.records.specs.Numbers.{Numbers, fine}
+use Rattle.reading.specs.Largest.{largestNetwork}
 use Rattle.reading.specs.Whole.{HouseNetwork, HouseList}
 use Rattle.judging.specs.Judging.{judgeRecords}
 use Rattle.cutting.specs.Cutting.{cutRecords, cutBuffer}
@@ -74,7 +76,7 @@ module _ (network sheet : List ℕ) (k : ℕ) where
   abbrev pub RecordSound : Type 0
   RecordSound = Bytes network → Bytes sheet → NoneApplies (cuttingRows network sheet k)
       → (networkRefusal F ≡ fine) × Bytes F × (networkOf F ≡ fragment (networkOf network) (sheetOf sheet) k)
-      × (length F ≤ length network) × (length F ≤ 35146)
+      × (length F ≤ length network) × (length F ≤ largestNetwork version1)
 
   -- The fragment is document 000's, point by point, less the edges that lead into inputs.
   abbrev pub PaperFragment : Type 0

@@ -2,13 +2,11 @@
 --     read-network, read-sheet, read-list        bytes that are not refused say a sound network, or well-formed entries, and are its bytes
 --     write-network, write-sheet, write-list     what can be held, written, is not refused and reads back as itself
 --     network-bytes                              two different networks have different bytes
---     network-length, within-largest             how long a record is, and the longest
 --     network-small                              a record is bytes
 use mathlib.Core.Path.{_≡_, sym, ap, _∙_}
 use mathlib.Core.List.{List}
-use Prim.Native.Nat.{ℕ, _+_, _*_, _≤_}
+use Prim.Native.Nat.{ℕ}
 use native.Mathlib.Omega.{arith}
-use lib.ListN.{length}
 use Rattle.lists.specs.All.{All, all-of}
 use Rattle.lists.specs.Codec.{Bytes}
 use Rattle.networks.specs.Sound.{Sound}
@@ -20,7 +18,7 @@ use Rattle.records.specs.Fine.{network-fine, fine-network, entries-fine, fine-e
 use Rattle.reading.specs.Whole.{HouseNetwork, HouseSheet, HouseList, bounds, readNetwork, writeNetwork, readSheet, writeSheet, readList, writeList, SheetFormed, ListFormed}
 use Rattle.reading.proofs.EntryBytes as entries
 use Rattle.reading.proofs.EntryKinds.{sheet-kind, list-kind}
-use Rattle.reading.proofs.NetworkBytes.{NetworkFits, length-written, parts-counted, read-written, written-read}
+use Rattle.reading.proofs.NetworkBytes.{NetworkFits, read-written, written-read}
 use Rattle.reading.proofs.ReadSound.{read-sound}
 use Rattle.reading.proofs.RowCodecs.{SheetEntryFits, ListEntryFits}
 use Rattle.reading.proofs.WrittenFine.{small-written, written-fine}
@@ -43,18 +41,6 @@ write-network N sound fits = (fine-network (writeNetwork version1 N) (written-fi
 -- Two networks with the same bytes are the same.
 pub network-bytes : (N M : HouseNetwork) → NetworkFits N → NetworkFits M → writeNetwork version1 N ≡ writeNetwork version1 M → N ≡ M
 network-bytes N M n m e = sym (read-written version1 (usable1 .wide) N n) ∙ ap (readNetwork version1) e ∙ read-written version1 (usable1 .wide) M m
-
--- A record is as long as its counts say, and no sound network's is longer than 35,146 bytes.
-pub network-length : (N : HouseNetwork) → length (writeNetwork version1 N) ≡ 10 + (length (N .policies) * 13 + length (N .boxes) * 27 + length (N .wires) * 5)
-network-length N = length-written version1 (usable1 .wide) N ∙ ap (_+_ 10) (parts-counted version1 (usable1 .wide) N)
-
-pub within-largest : (N : HouseNetwork) → Sound (bounds version1) N → length (writeNetwork version1 N) ≤ 35146
-within-largest N sound =
-    let e = network-length N in
-    let boxes = sound .boxes-within in
-    let wires = sound .wires-within in
-    let policies = sound .policies-within in
-    omega arith
 
 -- What is written is bytes.
 pub network-small : (N : HouseNetwork) → Sound (bounds version1) N → NetworkFits N → Bytes (writeNetwork version1 N)

@@ -1,5 +1,6 @@
 -- Refusals of records before an answer, taken apart.
 --     no-network, no-entries       an answer of a table without a number is that of no row
+--     unless-is                    what holds of every answer
 --     unless-fine                  nothing is refused, so the answer stands
 --     unless-given, unless-refused what an answer tells of the refusals before it
 use mathlib.Core.Path.{_≡_, refl, _∙_}
@@ -45,6 +46,14 @@ no-network b = numbered-fine (networkTable version1 b) refl
 pub no-entries : (lead : ℕ) (b : List ℕ) → entriesRefusal lead b .number ≡ 0 → entriesRefusal lead b ≡ fine
 unfolding entriesRefusal
 no-entries lead b = numbered-fine (entriesTable version1 lead b) refl
+
+-- what holds of a refusal, and of the answer where nothing is refused, holds of both
+pub unless-is : {A : Type 0} (P : Answer A → Type 0) (n : Numbers) (a : Answer A) → P (refused (n .number) (n .place)) → (n .number ≡ 0 → P a) → P (unless n a)
+unless-is P n a r h = go (eqb (n .number) 0) refl
+  where
+    go : (t : Bool) → eqb (n .number) 0 ≡ t → P (cond t a (refused (n .number) (n .place)))
+    go true e = h (eqb-true (n .number) 0 e)
+    go false e = r
 
 module _ {A : Type 0} (n : Numbers) (a : Answer A) where
   pub unless-fine : n ≡ fine → unless n a ≡ a

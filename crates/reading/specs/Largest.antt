@@ -6,8 +6,8 @@ use Rattle.reading.specs.Whole.{bounds}
 
 -- ten bytes, the policies, the nodes, the edges
 unfoldable pub largestNetwork : Form → ℕ
-largestNetwork f = 10 + 13 * bounds f .policies + nodeWidth f * bounds f .boxes + 5 * bounds f .wires
+largestNetwork f = 10 + (bounds f .policies * 13 + bounds f .boxes * nodeWidth f + bounds f .wires * 5)
 
 -- seven bytes and the entries of a list, or of a sheet
 unfoldable pub largestEntries : Form → ℕ → ℕ
-largestEntries f lead = 7 + entryWidth f lead * f .most
+largestEntries f lead = 7 + f .most * entryWidth f lead
