@@ -5,10 +5,11 @@ ghost use Prim.Native.Nat.{_+_, _≤_, _<_};
 ghost use lib.ListN.{length};
 ghost use Rattle.lists.specs.First.{firstBad};
 ghost use Rattle.lists.specs.Gather.{count};
-ghost use Rattle.records.specs.Layout.{nodeCount, edgeCount};
+ghost use Rattle.records.specs.Layout.{nodeCount};
 ghost use Rattle.records.specs.Node.{isOwn};
+ghost use Rattle.marking.specs.Marks.{Leaving, Feeding};
 ghost use Rattle.marking.specs.Parts.{noteOffset, keeps, Part, Parted};
-ghost use Rattle.marking.specs.Tables.{Checked, unclashed, Noted, Numbered, crosses, reaches, Marked};
+ghost use Rattle.marking.specs.Tables.{CheckedNetwork, CheckedSheet, unclashed, Noted, Numbered};
 use crate::marks::one_if;
 use records::Form;
 use records::entry_offset;
@@ -24,11 +25,10 @@ pub fn note_offset(
     form: Form,
     network: &[u8],
     sheet: &[u8],
-    rows: &[u16; 65536],
     entries: &[u16; 1024],
     i: usize,
 ) -> usize
-    requires { ⌜ Checked form (now network) (now sheet) (now rows) × Noted form (now network) (now sheet) (nodeCount (now network)) (now entries) × (i < nodeCount (now network)) × (isOwn form (now network) i ≡ true) ⌝ }
+    requires { ⌜ CheckedNetwork form (now network) × CheckedSheet form (now sheet) × Noted form (now network) (now sheet) (nodeCount (now network)) (now entries) × (i < nodeCount (now network)) × (isOwn form (now network) i ≡ true) ⌝ }
     ensures { λ r. ⌜ (r ≡ noteOffset form (now (entries .entry)) i) × (r + form .route ≤ length (now (sheet .entry))) ⌝ }
 {
     let entry = wide16(entries[i]);
@@ -40,12 +40,11 @@ fn keeps_promise(
     form: Form,
     network: &[u8],
     sheet: &[u8],
-    rows: &[u16; 65536],
     entries: &[u16; 1024],
     leaves: &[u8; 1024],
     i: usize,
 ) -> bool
-    requires { ⌜ Checked form (now network) (now sheet) (now rows) × Noted form (now network) (now sheet) (nodeCount (now network)) (now entries) × (i < nodeCount (now network)) × Marked form (now network) (crosses form (now network) (now sheet)) (edgeCount (now network)) (now leaves) ⌝ }
+    requires { ⌜ CheckedNetwork form (now network) × CheckedSheet form (now sheet) × Noted form (now network) (now sheet) (nodeCount (now network)) (now entries) × (i < nodeCount (now network)) × Leaving form (now network) (now sheet) (now leaves) ⌝ }
     ensures { λ r. ⌜ r ≡ unclashed form (now (network .entry)) (now (sheet .entry)) i ⌝ }
 {
     if !is_own(form, network, i) {
@@ -59,7 +58,7 @@ fn keeps_promise(
     if !promising_at(width, network, at) {
         return true;
     }
-    let note = note_offset(form, network, sheet, rows, entries, i);
+    let note = note_offset(form, network, sheet, entries, i);
     same(
         route_at(width, network, at + 4 + width),
         route_at(width, sheet, note),
@@ -71,17 +70,16 @@ pub fn first_clash(
     form: Form,
     network: &[u8],
     sheet: &[u8],
-    rows: &[u16; 65536],
     entries: &[u16; 1024],
     leaves: &[u8; 1024],
     n: usize,
 ) -> usize
-    requires { ⌜ Checked form (now network) (now sheet) (now rows) × Noted form (now network) (now sheet) (nodeCount (now network)) (now entries) × (n ≡ nodeCount (now network)) × Marked form (now network) (crosses form (now network) (now sheet)) (edgeCount (now network)) (now leaves) ⌝ }
+    requires { ⌜ CheckedNetwork form (now network) × CheckedSheet form (now sheet) × Noted form (now network) (now sheet) (nodeCount (now network)) (now entries) × (n ≡ nodeCount (now network)) × Leaving form (now network) (now sheet) (now leaves) ⌝ }
     ensures { λ r. ⌜ r ≡ firstBad (unclashed form (now (network .entry)) (now (sheet .entry))) n ⌝ }
 {
     let mut i = 0;
     while i < n {
-        if !keeps_promise(form, network, sheet, rows, entries, leaves, i) {
+        if !keeps_promise(form, network, sheet, entries, leaves, i) {
             return i;
         }
         i += 1;
@@ -94,7 +92,6 @@ fn part_of(
     form: Form,
     network: &[u8],
     sheet: &[u8],
-    rows: &[u16; 65536],
     entries: &[u16; 1024],
     numbers: &[u8; 1024],
     leaves: &[u8; 1024],
@@ -102,8 +99,8 @@ fn part_of(
     k: u8,
     i: usize,
 ) -> u8
-    requires { ⌜ Checked form (now network) (now sheet) (now rows) × Noted form (now network) (now sheet) (nodeCount (now network)) (now entries) × Numbered form (now network) (now sheet) (nodeCount (now network)) (now numbers) × (i < nodeCount (now network)) ⌝ }
-    requires { ⌜ Marked form (now network) (crosses form (now network) (now sheet)) (edgeCount (now network)) (now leaves) × Marked form (now network) (reaches form (now network) (now sheet) k) (edgeCount (now network)) (now feeds) ⌝ }
+    requires { ⌜ CheckedNetwork form (now network) × Noted form (now network) (now sheet) (nodeCount (now network)) (now entries) × Numbered form (now network) (now sheet) (nodeCount (now network)) (now numbers) × (i < nodeCount (now network)) ⌝ }
+    requires { ⌜ Leaving form (now network) (now sheet) (now leaves) × Feeding form (now network) (now sheet) k (now feeds) ⌝ }
     ensures { λ r. ⌜ Part form (now (network .entry)) (now (sheet .entry)) (now (entries .entry)) k i r ⌝ }
 {
     if !is_own(form, network, i) {
@@ -129,7 +126,6 @@ pub fn sort_rows(
     form: Form,
     network: &[u8],
     sheet: &[u8],
-    rows: &[u16; 65536],
     entries: &[u16; 1024],
     numbers: &[u8; 1024],
     leaves: &[u8; 1024],
@@ -138,26 +134,15 @@ pub fn sort_rows(
     n: usize,
     parts: &mut [u8; 1024],
 ) -> usize
-    requires { ⌜ Checked form (now network) (now sheet) (now rows) × Noted form (now network) (now sheet) (nodeCount (now network)) (now entries) × Numbered form (now network) (now sheet) (nodeCount (now network)) (now numbers) × (n ≡ nodeCount (now network)) × (length (now parts) ≡ 1024) ⌝ }
-    requires { ⌜ Marked form (now network) (crosses form (now network) (now sheet)) (edgeCount (now network)) (now leaves) × Marked form (now network) (reaches form (now network) (now sheet) k) (edgeCount (now network)) (now feeds) ⌝ }
+    requires { ⌜ CheckedNetwork form (now network) × Noted form (now network) (now sheet) (nodeCount (now network)) (now entries) × Numbered form (now network) (now sheet) (nodeCount (now network)) (now numbers) × (n ≡ nodeCount (now network)) × (length (now parts) ≡ 1024) ⌝ }
+    requires { ⌜ Leaving form (now network) (now sheet) (now leaves) × Feeding form (now network) (now sheet) k (now feeds) ⌝ }
     ensures kept { λ r. ⌜ r ≡ count (keeps form (now (network .entry)) (now (sheet .entry)) k) n ⌝ }
     ensures sorted { λ _. ⌜ Parted form (now (network .entry)) (now (sheet .entry)) (now (entries .entry)) k n (now (parts .exit)) ⌝ }
 {
     let mut kept = 0;
     let mut i = 0;
     while i < n {
-        let part = part_of(
-            form,
-            network,
-            sheet,
-            rows,
-            entries,
-            numbers,
-            leaves,
-            feeds,
-            k,
-            i,
-        );
+        let part = part_of(form, network, sheet, entries, numbers, leaves, feeds, k, i);
         parts[i] = part;
         kept += one_if(part != 0);
         i += 1;

@@ -19,7 +19,7 @@ returns : tie.Need-returns
 returns c = (search cutting-17, search cutting-17)
 
 cut-entered-requires : tie.Need-cut-entered-requires
-cut-entered-requires c κs = (search needs, search cutting-17, search cutting-17, search cutting-17)
+cut-entered-requires c κs = (search needs, search needs, search needs, search cutting-17, search cutting-17, search cutting-17)
 
 same-length : tie.Need-same-length
 same-length c = search needs

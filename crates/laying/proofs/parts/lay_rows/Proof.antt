@@ -28,7 +28,7 @@ part-lay-edges-end : tie.Need-part-lay-edges-end
 part-lay-edges-end c = search (needs, rowing)
 
 lay-edges-requires : tie.Need-lay-edges-requires
-lay-edges-requires c κs = (search needs, search needs, search rowing)
+lay-edges-requires c κs = (search needs, search needs, search needs, search rowing)
 
 same-length : tie.Need-same-length
 same-length c = search (needs, rowing)
