@@ -1,8 +1,8 @@
 -- What the checks of the two records leave, and the tables as they are at first.
---     checking                            the refusals of the two records
+--     checking                           the refusals of the two records
 --     network-checked, sheet-checked     what stands without one
---     tables-start                        tables that nothing is entered in
---     tables-whole                        tables whose counts are the records' own
+--     tables-start                       tables that nothing is entered in
+--     tables-whole                       tables whose counts are the records' own
 use Prim.Native.Nat.{ℕ, _≤_}
 use native.Mathlib.Omega.{arith}
 use mathlib.Core.List.{List}

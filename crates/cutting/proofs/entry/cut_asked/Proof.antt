@@ -1,3 +1,4 @@
+-- The marks of all edges say which boxes cut wires leave (leaving). The first clash is 19; where there is none, the answer is the fragment's.
 use Rattle.cutting.proofs.AnswerLaws.{cutting-19}
 use Rattle.cutting.proofs.CheckLaws.{tables-start, tables-whole}
 use borrow.Author.Needs.{needs}
@@ -35,7 +36,7 @@ same-length : tie.Need-same-length
 same-length c = search needs
 
 returns-2 : tie.Need-returns-2
-returns-2 c = let p = c .before .before .before .before .before .before .before .before .before .before .before .before .before .before .before .before .before .pre in (search cutting-19, search cutting-19)
+returns-2 c = (search cutting-19, search cutting-19)
 
 pub cut-asked-spec : {M : Type 1} → statement M
 cut-asked-spec =

@@ -1,3 +1,4 @@
+-- No row with the number is 18 (answer-18); one is what the rest asks for.
 use Rattle.cutting.proofs.AnswerLaws.{cutting-18}
 use borrow.Author.Needs.{needs}
 use Rattle.cutting.proofs.entry.cut_entered.Statement.{statement}

@@ -1,3 +1,4 @@
+-- As lay_nodes, with the offset of the edge at hand.
 use Rattle.laying.proofs.LayLaws.{edge-fits, laying, offsets}
 use Rattle.lists.specs.Gather.{Laying}
 use Rattle.records.specs.Layout.{edgeOffset}

@@ -1,3 +1,4 @@
+-- Before the i-th turn the bytes of the rows before it lie over the start of the buffer (Laying), and the next row fits in what remains.
 use Rattle.laying.proofs.LayLaws.{node-fits, laying}
 use Rattle.lists.specs.Gather.{Laying}
 use Rattle.laying.specs.Pieces.{nodeBytes}

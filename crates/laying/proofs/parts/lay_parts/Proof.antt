@@ -1,3 +1,4 @@
+-- The policies are stored at the start, and the rows lie in what remains (parts-laid).
 use Rattle.laying.proofs.LayLaws.{parting}
 use borrow.Author.Needs.{needs}
 use Rattle.laying.proofs.parts.lay_parts.Statement.{statement}

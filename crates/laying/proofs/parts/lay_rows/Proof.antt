@@ -1,3 +1,4 @@
+-- The nodes lie over the start, and the edges in what remains, so both over the whole (rows-laid).
 use Rattle.laying.proofs.LayLaws.{rowing}
 use borrow.Author.Needs.{needs}
 use Rattle.laying.proofs.parts.lay_rows.Statement.{statement}

@@ -1,3 +1,4 @@
+-- Before the j-th turn the rows that the edges before it leave are marked, and the fragment's among them counted (Marking).
 use Rattle.marking.proofs.MarkLaws.{Marking, markings}
 use Prim.Native.Nat.{_-_}
 use borrow.Author.Needs.{needs}

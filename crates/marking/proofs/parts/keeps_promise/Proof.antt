@@ -1,3 +1,4 @@
+-- One law for each way: an input, no cut wire, no promise, and the two routes compared.
 use Rattle.marking.proofs.ClashLaws.{clashing}
 use borrow.Author.Needs.{needs}
 use Rattle.marking.proofs.parts.keeps_promise.Statement.{statement}

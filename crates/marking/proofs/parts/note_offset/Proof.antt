@@ -1,3 +1,4 @@
+-- The note stands behind id and number of the entry that the table has for the row.
 use Rattle.marking.proofs.RowLaws.{noting}
 use borrow.Author.Needs.{needs}
 use Rattle.marking.proofs.parts.note_offset.Statement.{statement}

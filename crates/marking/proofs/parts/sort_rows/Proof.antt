@@ -1,3 +1,4 @@
+-- Before the i-th turn the parts of the rows before it stand in the table, and those that are kept are counted (Sorting).
 use Rattle.marking.proofs.PartLaws.{Sorting, partings}
 use Prim.Native.Nat.{_-_}
 use borrow.Author.Needs.{needs}

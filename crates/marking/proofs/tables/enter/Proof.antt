@@ -1,3 +1,4 @@
+-- Before the i-th turn every row before it is entered in both tables, and each has an entry or needs none (Entering).
 use Rattle.marking.proofs.TableLaws.{Entering, entries}
 use Prim.Native.Nat.{_-_}
 use borrow.Author.Needs.{needs}

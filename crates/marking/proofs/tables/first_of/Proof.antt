@@ -1,3 +1,4 @@
+-- Before the i-th turn no row before it is an own node with the number (Seek).
 use Rattle.lists.specs.Walk.{Seek, seeking}
 use Prim.Native.Nat.{_-_}
 use Rattle.marking.specs.Tables.{otherNumber}
