@@ -3,13 +3,14 @@
 //
 // Every function asks for two records that a check has not refused.
 mod marks;
+mod notes;
 mod parts;
 mod tables;
 
 pub use marks::mark_wires;
 pub use marks::row_at;
-pub use parts::first_clash;
-pub use parts::note_offset;
+pub use notes::first_clash;
+pub use notes::note_offset;
 pub use parts::sort_rows;
 pub use tables::enter;
 pub use tables::first_of;
