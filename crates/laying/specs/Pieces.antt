@@ -24,10 +24,11 @@ use Rattle.marking.specs.Marks.{reaches}
 use Rattle.marking.specs.Parts.{pieceOf, Parted}
 use Rattle.marking.specs.Tables.{CheckedNetwork, CheckedSheet, Noted, Numbered}
 
--- o and n are the offsets of the node and of the note, w the width of a route
+-- A node whose note is promised. o and n are the offsets of the node and of the note, w the width of a route.
 unfoldable pub promisedRow : ℕ → List ℕ → ℕ → List ℕ → ℕ → List ℕ
 promisedRow w network o sheet n = take (3 + w) (drop o network) ++ ((1 ∷ []) ++ (take w (drop n sheet) ++ take 5 (drop (o + 4 + w + w) network)))
 
+-- a node as an input that is assumed to hold its note
 unfoldable pub assumedRow : ℕ → List ℕ → ℕ → List ℕ → ℕ → List ℕ
 assumedRow w network o sheet n = take 2 (drop o network) ++ ((1 ∷ []) ++ (take w (drop n sheet) ++ replicate (6 + w) 0))
 

@@ -17,17 +17,19 @@ use Rattle.records.specs.declared.Form.{Form}
 use Rattle.reading.specs.Whole.{readNetwork, readSheet}
 
 module _ (f : Form) (network numbers : List ℕ) where
-  -- the numbers of the rows that the j-th edge leads to and leaves
+  -- the number of the row that the j-th edge leads to
   unfoldable pub toNumber : ℕ → ℕ
   toNumber j = getD numbers (rowOf f network (edgeTo f network j)) 0
 
+  -- and of the row that it leaves
   unfoldable pub fromNumber : ℕ → ℕ
   fromNumber j = getD numbers (rowOf f network (edgeFrom f network j)) 0
 
-  -- the j-th edge joins rows with different numbers; its to end has number k
+  -- the j-th edge joins rows with different numbers
   unfoldable pub crosses : ℕ → Bool
   crosses j = not (eqb (toNumber j) (fromNumber j))
 
+  -- its to end has number k
   unfoldable pub reaches : ℕ → ℕ → Bool
   reaches k j = eqb (toNumber j) k
 

@@ -28,12 +28,14 @@ use Rattle.records.specs.declared.Form.{Form}
 use Rattle.reading.specs.Parts.{boxAt}
 use Rattle.reading.specs.Whole.{readNetwork, readSheet}
 
+-- a network record that is not refused, with what follows for its readers
 pub record CheckedNetwork (f : Form) (network : List ℕ) : Type 0 where
   pub bytes : Bytes network
   pub sound : NetworkFine f network
   pub room : Room f network
   pub rising : Rising (nodeId f network) (nodeCount network)
 
+-- a sheet record that is not refused
 pub record CheckedSheet (f : Form) (sheet : List ℕ) : Type 0 where
   pub bytes : Bytes sheet
   pub formed : EntriesFine f sheetLead sheet

@@ -1,7 +1,7 @@
 // Marking: the tables that a cut is read from, by the rows of the network's nodes: entries, fragment numbers, marks of the rows
 // that wires leave, and what the fragment keeps of each row. Numbers 17, 18 and 19 are found on the way.
 //
-// Every function asks for two records that a check has not refused.
+// The functions ask for records that a check has not refused.
 mod marks;
 mod notes;
 mod parts;
