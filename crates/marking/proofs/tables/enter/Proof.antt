@@ -1,3 +1,4 @@
+-- Before the i-th turn every row before it is entered in both tables, and each has an entry or needs none (Entering).
 use Rattle.marking.proofs.TableLaws.{Entering, entries}
 use Prim.Native.Nat.{_-_}
 use borrow.Author.Needs.{needs}
@@ -5,10 +6,10 @@ use Rattle.marking.proofs.tables.enter.Statement.{statement}
 use Rattle.marking.proofs.tables.enter.Tie as tie
 
 abbrev Inv-loop : tie.InvT-loop
-Inv-loop form network sheet rows entries₀ numbers₀ n i₀ entries numbers i = Entering form network sheet n i entries numbers
+Inv-loop form network sheet entries₀ numbers₀ n i₀ entries numbers i = Entering form network sheet n i entries numbers
 
 abbrev μ-loop : tie.MeasureT-loop
-μ-loop form network sheet rows entries₀ numbers₀ n i₀ entries numbers i = n - i
+μ-loop form network sheet entries₀ numbers₀ n i₀ entries numbers i = n - i
 
 loop-holds : tie.Need-loop-holds Inv-loop μ-loop
 loop-holds c = search (needs, entries)

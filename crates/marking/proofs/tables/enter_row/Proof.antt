@@ -1,3 +1,4 @@
+-- One law for each way: an input, an own node without an entry, an own node with one.
 use Rattle.marking.proofs.TableLaws.{entering}
 use borrow.Author.Needs.{needs}
 use Rattle.marking.proofs.tables.enter_row.Statement.{statement}
