@@ -7,13 +7,14 @@ ghost use Rattle.records.specs.Layout.{nodeCount};
 ghost use Rattle.marking.specs.Tables.{CheckedNetwork, CheckedSheet, entered, otherNumber, Noted, Numbered};
 use numbers::u16_at;
 use records::Form;
-use records::entry_of;
+use records::entry_near;
 use records::entry_offset;
 use records::is_own;
 use records::node_id;
+use records::row_behind;
 
-// Enters row i in both tables: the row of its entry in the sheet where it is an own node, and its fragment number. Answers
-// whether it has an entry, or needs none.
+// Enters row i in both tables: the row of its entry in the sheet where it is an own node, which is looked for first in the row
+// near, and its fragment number. Answers whether it has an entry, or needs none.
 fn enter_row(
     form: Form,
     network: &[u8],
@@ -21,6 +22,7 @@ fn enter_row(
     entries: &mut [u16; 1024],
     numbers: &mut [u8; 1024],
     i: usize,
+    near: usize,
 ) -> bool
     requires { ⌜ CheckedNetwork form (now network) × CheckedSheet form (now sheet) × (i < nodeCount (now network)) × Noted form (now network) (now sheet) i (now entries) × Numbered form (now network) (now sheet) i (now numbers) ⌝ }
     ensures found { λ r. ⌜ r ≡ entered form (now (network .entry)) (now (sheet .entry)) i ⌝ }
@@ -31,7 +33,7 @@ fn enter_row(
         numbers[i] = 64;
         return true;
     }
-    let entry = entry_of(form, 3, sheet, node_id(form, network, i));
+    let entry = entry_near(form, 3, sheet, near, node_id(form, network, i));
     if entry == u16_at(sheet, 5) as usize {
         return false;
     }
@@ -55,10 +57,12 @@ pub fn enter(
     ensures numbered { λ r. ⌜ (r ≡ n → Numbered form (now (network .entry)) (now (sheet .entry)) n (now (numbers .exit))) ⌝ }
 {
     let mut i = 0;
+    let mut near = 0;
     while i < n {
-        if !enter_row(form, network, sheet, entries, numbers, i) {
+        if !enter_row(form, network, sheet, entries, numbers, i, near) {
             return i;
         }
+        near = row_behind(near, entries[i]);
         i += 1;
     }
     i
