@@ -1,5 +1,5 @@
 -- The cutter's answers, refusal by refusal.
---     placing               20, or the record in its place
+--     rooms                 20, or the length
 --     cutting-17, cutting-18, cutting-19     the others
 use Prim.Native.Nat.{ℕ, _≤_, _<_}
 use native.Mathlib.Omega.{arith}
@@ -13,8 +13,7 @@ use borrow.Author.Tests.{eq-eqb, ne-eqb, lt-ltb, le-ltb, le-leb, lt-leb}
 use Rattle.lists.specs.All.{any}
 use Rattle.lists.specs.Filter.{holds, any-filterMap}
 use Rattle.lists.specs.First.{firstBad, every, every-ext, first-le}
-use Rattle.lists.specs.Gather.{count, count-le}
-use Rattle.lists.specs.Laid.{over, placed, placed-fits, placed-short}
+use Rattle.lists.specs.Laid.{placed}
 use Rattle.lists.specs.Stride.{at}
 use Rattle.lists.specs.Table.{any-rows}
 use Rattle.routes.specs.declared.Demand.{Demand}
@@ -25,7 +24,7 @@ use Rattle.networks.specs.House.{house}
 use Rattle.networks.specs.Network.{Own, Box, own, input, asOwn, ownBoxes}
 use Rattle.networks.specs.Sheets.{note}
 use Rattle.records.specs.Form.{nodeWidth}
-use Rattle.records.specs.Layout.{nodeCount, edgeCount, nodePart, nodeOffset}
+use Rattle.records.specs.Layout.{nodeCount, nodePart, nodeOffset}
 use Rattle.records.specs.Node.{nodeId}
 use Rattle.records.specs.declared.Form.{Form}
 use Rattle.reading.specs.Parts.{boxAt}
@@ -33,43 +32,20 @@ use Rattle.reading.specs.Whole.{HouseNetwork, HouseSheet, readNetwork, readShee
 use Rattle.reading.proofs.Lowest.{passed, lowest-rows}
 use Rattle.reading.proofs.Said.{box-id-at}
 use Rattle.cutting.specs.Cutting.{cutSaid, roomFor, recordAnswer, laidAnswer}
-use Rattle.marking.specs.Parts.{keeps}
-use Rattle.laying.specs.Pieces.{fragmentIn, sizeOf, Tabled}
+use Rattle.laying.specs.Pieces.{fragmentIn}
 use Rattle.cutting.specs.Stages.{Entered, Asked}
-use Rattle.marking.specs.Tables.{boxIn, ownMeets, entered, otherNumber, unclashed, Noted, Numbered, reaches}
-use Rattle.laying.proofs.RecordLaws.{record-long}
+use Rattle.marking.specs.Tables.{boxIn, ownMeets, entered, otherNumber, unclashed, Noted, Numbered}
+use Rattle.marking.proofs.TableLaws.{other-is}
 
--- the counts are small
-module _ (f : Form) (network sheet rows entries numbers parts : List ℕ) (k : ℕ) (t : Tabled f network sheet rows entries numbers parts k) (n : ℕ) where
-  pub nodes-low : n ≡ count (keeps f network sheet k) (nodeCount network) → n ≤ 65535
-  nodes-low p = let few = t .checked .room .few in let most = t .checked .room .usable .few in omega (arith, count-le (keeps f network sheet k) (nodeCount network))
+-- the length of a record against the room for it
+module _ (room size : ℕ) (w : List ℕ) (s : size ≡ length w) where
+  pub room-short : room < size → refused 20 size ≡ roomFor room w
+  room-short h = rw (← s, lt-leb size room h)
 
-  pub edges-low : n ≡ count (reaches f network sheet k) (edgeCount network) → n ≤ 65535
-  edges-low q = let few = t .checked .sound .few-edges in omega (arith, count-le (reaches f network sheet k) (edgeCount network))
+  pub room-enough : size ≤ room → given size ≡ roomFor room w
+  room-enough h = rw (← s, le-leb size room h)
 
--- the record in its place, or too long for it
-module _ (f : Form) (network sheet rows entries numbers parts : List ℕ) (k : ℕ) (t : Tabled f network sheet rows entries numbers parts k) (nodes edges size : ℕ)
-    (p : nodes ≡ count (keeps f network sheet k) (nodeCount network)) (q : edges ≡ count (reaches f network sheet k) (edgeCount network))
-    (s : size ≡ sizeOf f network nodes edges) (out : List ℕ) where
-  abbrev W : List ℕ
-  W = writeNetwork f (fragmentIn f network sheet k)
-
-  long : length W ≡ size
-  long = sym (record-long f network sheet rows entries numbers parts k t nodes edges p q size s)
-
-  pub place-short : length out < size → refused 20 size ≡ roomFor (length out) W
-  place-short h = rw (long, lt-leb size (length out) h)
-
-  pub place-kept : length out < size → out ≡ placed W out
-  place-kept h = let e = long in placed-short W out out (omega arith) refl
-
-  pub place-done : size ≤ length out → given size ≡ roomFor (length out) W
-  place-done h = rw (long, le-leb size (length out) h)
-
-  pub place-laid : (out′ : List ℕ) → size ≤ length out → out′ ≡ over W out → out′ ≡ placed W out
-  place-laid out′ h e = let g = long in placed-fits W out out′ (omega arith) e
-
-pub ruleset placing = (nodes-low, edges-low, place-short, place-kept, place-done, place-laid)
+pub ruleset rooms = (room-short, room-enough)
 
 -- the lowest own box that meets a test, by its row
 module _ (f : Form) (network : List ℕ) (test : Own Route Demand → Bool) where
@@ -81,12 +57,12 @@ module _ (f : Form) (network : List ℕ) (test : Own Route Demand → Bool) wher
   unfolding ownMeets boxIn nodeOffset
   row-passes i = passes (boxAt (f .route) network (at (nodePart network) (nodeWidth f) i))
 
-  module _ (ok : ℕ → Bool) (same : (i : ℕ) → ok i ≡ not (ownMeets f network test i)) where
+  module _ (ok : ℕ → Bool) (same : (i : ℕ) → i < nodeCount network → ok i ≡ not (ownMeets f network test i)) where
     lowest-own : lowest test (ownBoxes (readNetwork f network))
         ≡ cond (ltb (firstBad ok (nodeCount network)) (nodeCount network)) (some (nodeId f network (firstBad ok (nodeCount network)))) none
     unfolding readNetwork nodeId nodeOffset
     lowest-own =
-        lowest-rows test (boxAt (f .route) network) (nodeWidth f) ok (nodePart network) (nodeCount network) (λ i l. same i ∙ row-passes i)
+        lowest-rows test (boxAt (f .route) network) (nodeWidth f) ok (nodePart network) (nodeCount network) (λ i l. same i l ∙ row-passes i)
         ∙ ap (λ (x : ℕ). cond (ltb (firstBad ok (nodeCount network)) (nodeCount network)) (some x) none) (box-id-at (f .route) network _)
 
     any-own : any test (ownBoxes (readNetwork f network)) ≡ not (eqb (firstBad ok (nodeCount network)) (nodeCount network))
@@ -94,7 +70,7 @@ module _ (f : Form) (network : List ℕ) (test : Own Route Demand → Bool) wher
     any-own =
         any-filterMap test asOwn (readNetwork f network .boxes)
         ∙ any-rows (λ (v : Box Route Demand). holds test (asOwn v)) (boxAt (f .route) network) (nodeWidth f) (nodePart network) (nodeCount network)
-        ∙ ap not (every-ext _ _ (nodeCount network) (λ i l. sym (same i)))
+        ∙ ap not (every-ext _ _ (nodeCount network) (λ i l. sym (same i l)))
 
 module _ (f : Form) (network sheet : List ℕ) (k : ℕ) where
   abbrev N : HouseNetwork
@@ -107,16 +83,16 @@ module _ (f : Form) (network sheet : List ℕ) (k : ℕ) where
   unentered-is : unentered N (note S)
       ≡ cond (ltb (firstBad (entered f network sheet) (nodeCount network)) (nodeCount network)) (some (nodeId f network (firstBad (entered f network sheet) (nodeCount network)))) none
   unfolding entered
-  unentered-is = lowest-own f network (λ (b : Own Route Demand). not (isSome (note S (b .id)))) (entered f network sheet) (λ i. refl)
+  unentered-is = lowest-own f network (λ (b : Own Route Demand). not (isSome (note S (b .id)))) (entered f network sheet) (λ i l. refl)
 
-  asked-is : any (numbered N S k) (ownBoxes N) ≡ not (eqb (firstBad (otherNumber f network sheet k) (nodeCount network)) (nodeCount network))
-  unfolding otherNumber
-  asked-is = any-own f network (numbered N S k) (otherNumber f network sheet k) (λ i. refl)
+  asked-is : (numbers : List ℕ) → Numbered f network sheet (nodeCount network) numbers
+      → any (numbered N S k) (ownBoxes N) ≡ not (eqb (firstBad (otherNumber f network numbers k) (nodeCount network)) (nodeCount network))
+  asked-is numbers m = any-own f network (numbered N S k) (otherNumber f network numbers k) (λ i l. other-is f network numbers k i sheet m l)
 
   clash-is : lowest (clashes (house 65535) N S) (ownBoxes N)
       ≡ cond (ltb (firstBad (unclashed f network sheet) (nodeCount network)) (nodeCount network)) (some (nodeId f network (firstBad (unclashed f network sheet) (nodeCount network)))) none
   unfolding unclashed
-  clash-is = lowest-own f network (clashes (house 65535) N S) (unclashed f network sheet) (λ i. refl)
+  clash-is = lowest-own f network (clashes (house 65535) N S) (unclashed f network sheet) (λ i l. refl)
 
   module _ (n : ℕ) (e : n ≡ nodeCount network) where
     -- a row without an entry
@@ -153,14 +129,14 @@ module _ (f : Form) (network sheet : List ℕ) (k : ℕ) where
         all-entered = none-missing
 
     -- no own node with the number asked, or one
-    module _ (h : Entered f network sheet) (asked : ℕ) (q : asked ≡ firstBad (otherNumber f network sheet k) n) where
-      at-asked : asked ≡ firstBad (otherNumber f network sheet k) (nodeCount network)
+    module _ (h : Entered f network sheet) (numbers : List ℕ) (m : Numbered f network sheet (nodeCount network) numbers) (asked : ℕ) (q : asked ≡ firstBad (otherNumber f network numbers k) n) where
+      at-asked : asked ≡ firstBad (otherNumber f network numbers k) (nodeCount network)
       at-asked = rw (← e) q
 
       module _ (z : asked ≡ n) where
         said-18 : cutSaid f network sheet k ≡ refused 18 k
         unfolding cutSaid cut Entered
-        said-18 = rw (h, asked-is, ← at-asked, eq-eqb asked (nodeCount network) (z ∙ e))
+        said-18 = rw (h, asked-is numbers m, ← at-asked, eq-eqb asked (nodeCount network) (z ∙ e))
 
         pub answer-18 : (room : ℕ) → refused 18 k ≡ recordAnswer f room (cutSaid f network sheet k)
         answer-18 room = rw said-18
@@ -170,7 +146,7 @@ module _ (f : Form) (network sheet : List ℕ) (k : ℕ) where
 
       pub one-asked : (asked ≡ n → ⊥) → Asked f network sheet k
       unfolding Asked
-      one-asked z = asked-is ∙ rw (← at-asked, ne-eqb asked (nodeCount network) (λ y. z (y ∙ sym e)))
+      one-asked z = asked-is numbers m ∙ rw (← at-asked, ne-eqb asked (nodeCount network) (λ y. z (y ∙ sym e)))
 
     -- a row whose promise is not its note, or none
     module _ (h : Entered f network sheet) (a : Asked f network sheet k) (clash : ℕ) (q : clash ≡ firstBad (unclashed f network sheet) n) where

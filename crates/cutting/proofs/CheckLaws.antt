@@ -1,7 +1,8 @@
 -- What the checks of the two records leave, and the tables as they are at first.
---     checking, records-checked     the refusals of the two records, and what stands without one
---     tables-start          tables that nothing is entered in
---     tables-whole          tables whose counts are the records' own
+--     checking                           the refusals of the two records
+--     network-checked, sheet-checked     what stands without one
+--     tables-start                       tables that nothing is entered in
+--     tables-whole                       tables whose counts are the records' own
 use Prim.Native.Nat.{ℕ, _≤_}
 use native.Mathlib.Omega.{arith}
 use mathlib.Core.List.{List}
@@ -19,15 +20,16 @@ use Rattle.records.specs.Network.{networkRefusal}
 use Rattle.records.specs.Numbers.{numbersOf, checkNumbers, fine}
 use Rattle.records.specs.Offsets.{usable1, fine-room, fine-entries-room}
 use Rattle.records.specs.RowLaws.{ids-rise, entry-ids-rise}
-use Rattle.records.specs.Rows.{RowsAfter}
 use Rattle.records.specs.declared.Check.{Check}
 use Rattle.records.specs.declared.Check.the-variants.{Fine, Refused}
 use Rattle.records.specs.declared.Form.{Form}
 use Rattle.records.specs.declared.Refusal.{Refusal}
 use Rattle.cutting.specs.Cutting.{cutSaid, cutNetwork, recordAnswer, laidAnswer, cutRecords, cutBuffer}
 use Rattle.laying.specs.Pieces.{Tabled}
+use Rattle.marking.specs.Marks.{crosses, reaches, Marked}
 use Rattle.marking.specs.Parts.{keeps, Parted}
-use Rattle.marking.specs.Tables.{Checked, Noted, Numbered, crosses, reaches, Marked}
+use Rattle.marking.specs.Tables.{CheckedNetwork, CheckedSheet, Noted, Numbered}
+use Rattle.marking.proofs.MarkSaid.{leaving, feeding}
 use Rattle.marking.proofs.MarkLaws.{marked-none}
 
 module _ (network sheet : List ℕ) (k : ℕ) (c : Check) (h : checkNumbers c ≡ networkRefusal network) where
@@ -79,64 +81,56 @@ module _ (network sheet : List ℕ) (k : ℕ) (c : Check) (h : checkNumbers c �
 
 pub ruleset checking = (network-refused, network-kept, sheet-refused, sheet-kept, records-cut, records-laid)
 
--- what two checks without a refusal leave
-pub records-checked : (network sheet before after : List ℕ) (c d : Check) → checkNumbers c ≡ networkRefusal network → c ≡ Fine → checkNumbers d ≡ sheetRefusal sheet → d ≡ Fine
-    → RowsAfter version1 network c before after → Bytes network → Bytes sheet → Checked version1 network sheet after
-records-checked network sheet before after c d h e g q f small sheet-small =
+-- what a check without a refusal leaves
+pub network-checked : (network : List ℕ) (c : Check) → checkNumbers c ≡ networkRefusal network → c ≡ Fine → Bytes network → CheckedNetwork version1 network
+network-checked network c h e small =
     let sound : NetworkFine version1 network = network-fine network (sym (ap checkNumbers (sym e) ∙ h)) in
+    record { bytes = small; sound = sound; room = fine-room version1 network usable1 sound; rising = ids-rise version1 network (nodeCount network) (sound .nodes) }
+
+pub sheet-checked : (sheet : List ℕ) (d : Check) → checkNumbers d ≡ sheetRefusal sheet → d ≡ Fine → Bytes sheet → CheckedSheet version1 sheet
+sheet-checked sheet d g q small =
     let formed : EntriesFine version1 sheetLead sheet = entries-fine sheetLead sheet (sym (ap checkNumbers (sym q) ∙ g)) in
     record {
       bytes = small;
-      sheet-bytes = sheet-small;
-      sound = sound;
       formed = formed;
-      room = fine-room version1 network usable1 sound;
-      sheet-room = fine-entries-room version1 sheetLead sheet usable1 (omega arith, omega arith) formed;
-      rising = ids-rise version1 network (nodeCount network) (sound .nodes);
-      sheet-rising = entry-ids-rise version1 sheetLead sheet _ (formed .entries);
-      filled = rw e at f;
+      room = fine-entries-room version1 sheetLead sheet usable1 (omega arith, omega arith) formed;
+      rising = entry-ids-rise version1 sheetLead sheet _ (formed .entries);
     }
 
--- nothing is entered yet
+-- nothing is entered or marked yet
+pub zeros-long : length (replicate {A = ℕ} 1024 0) ≡ 1024
+zeros-long = length-replicate {A = ℕ} 1024 0
+
 module _ (f : Form) (network sheet : List ℕ) where
   pub noted-none : Noted f network sheet 0 (replicate 1024 0)
-  noted-none = record { long = length-replicate {A = ℕ} 1024 0; row = λ i l. absurd (omega arith) }
+  noted-none = record { long = zeros-long; row = λ i l. absurd (omega arith) }
 
   pub numbered-none : Numbered f network sheet 0 (replicate 1024 64)
   numbered-none = record { long = length-replicate {A = ℕ} 1024 64; row = λ i l. absurd (omega arith) }
 
-  pub zeros-long : length (replicate {A = ℕ} 1024 0) ≡ 1024
-  zeros-long = length-replicate {A = ℕ} 1024 0
+module _ (f : Form) (network numbers : List ℕ) (c : CheckedNetwork f network) where
+  few : nodeCount network ≤ 1024
+  few = let r = c .room .few in let u = c .room .usable .few in omega arith
 
-  module _ (rows : List ℕ) (c : Checked f network sheet rows) where
-    few : nodeCount network ≤ 1024
-    few = let r = c .room .few in let u = c .room .usable .few in omega arith
+  pub crossed-none : Marked f network (crosses f network numbers) 0 (replicate 1024 0)
+  crossed-none = marked-none f network (crosses f network numbers) few
 
-    pub crossed-none : Marked f network (crosses f network sheet) 0 (replicate 1024 0)
-    crossed-none = marked-none f network (crosses f network sheet) few
-
-    pub reached-none : (k : ℕ) → Marked f network (reaches f network sheet k) 0 (replicate 1024 0)
-    reached-none k = marked-none f network (reaches f network sheet k) few
+  pub reached-none : (k : ℕ) → Marked f network (reaches f network numbers k) 0 (replicate 1024 0)
+  reached-none k = marked-none f network (reaches f network numbers k) few
 
 pub ruleset tables-start = (noted-none, numbered-none, zeros-long, crossed-none, reached-none)
 
 -- all edges are marked, and all rows sorted
-module _ (f : Form) (network sheet : List ℕ) (k m : ℕ) (e : m ≡ edgeCount network) where
-  pub crossed-all : (marks : List ℕ) → Marked f network (crosses f network sheet) m marks → Marked f network (crosses f network sheet) (edgeCount network) marks
-  crossed-all marks h = rw (← e) h
-
-  pub reached-all : (marks : List ℕ) → Marked f network (reaches f network sheet k) m marks → Marked f network (reaches f network sheet k) (edgeCount network) marks
-  reached-all marks h = rw (← e) h
-
-  pub counted-all : (wires : ℕ) → wires ≡ count (reaches f network sheet k) m → wires ≡ count (reaches f network sheet k) (edgeCount network)
-  counted-all wires h = rw (← e) h
+pub wires-counted : (f : Form) (network numbers : List ℕ) (k m wires : ℕ) → m ≡ edgeCount network → wires ≡ count (reaches f network numbers k) m
+    → wires ≡ count (reaches f network numbers k) (edgeCount network)
+wires-counted f network numbers k m wires e h = rw (← e) h
 
 module _ (f : Form) (network sheet : List ℕ) (k n : ℕ) (e : n ≡ nodeCount network) where
-  pub kept-all : (kept : ℕ) → kept ≡ count (keeps f network sheet k) n → kept ≡ count (keeps f network sheet k) (nodeCount network)
-  kept-all kept h = rw (← e) h
+  pub nodes-counted : (kept : ℕ) → kept ≡ count (keeps f network sheet k) n → kept ≡ count (keeps f network sheet k) (nodeCount network)
+  nodes-counted kept h = rw (← e) h
 
-  pub tabled : (rows entries numbers parts : List ℕ) → Checked f network sheet rows → Noted f network sheet (nodeCount network) entries
-      → Numbered f network sheet (nodeCount network) numbers → Parted f network sheet entries k n parts → Tabled f network sheet rows entries numbers parts k
-  tabled rows entries numbers parts c a b h = record { checked = c; noted = a; numbered = b; parted = rw (← e) h }
+  pub tabled : (entries numbers parts : List ℕ) → CheckedNetwork f network → CheckedSheet f sheet → Noted f network sheet (nodeCount network) entries
+      → Numbered f network sheet (nodeCount network) numbers → Parted f network sheet entries k n parts → Tabled f network sheet entries numbers parts k
+  tabled entries numbers parts c d a b h = record { checked = c; formed = d; noted = a; numbered = b; parted = rw (← e) h }
 
-pub ruleset tables-whole = (crossed-all, reached-all, counted-all, kept-all, tabled)
+pub ruleset tables-whole = (leaving, feeding, wires-counted, nodes-counted, tabled)

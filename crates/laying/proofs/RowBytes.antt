@@ -30,10 +30,10 @@ use Rattle.reading.proofs.DemandCodec.{demand}
 use Rattle.reading.proofs.RowCodecs.{wire}
 use Rattle.marking.specs.Parts.{noteOffset, noteIn, withPromise, assumedOf}
 use Rattle.laying.specs.Pieces.{promisedRow, assumedRow}
-use Rattle.marking.specs.Tables.{Checked, boxIn, Noted}
+use Rattle.marking.specs.Tables.{CheckedNetwork, CheckedSheet, boxIn, Noted}
 use Rattle.marking.proofs.Said.{own-box}
 
-module _ (f : Form) (network sheet rows : List ℕ) (c : Checked f network sheet rows) where
+module _ (f : Form) (network : List ℕ) (c : CheckedNetwork f network) where
   abbrev w : ℕ
   w = f .route
 
@@ -80,18 +80,18 @@ module _ (f : Form) (network sheet rows : List ℕ) (c : Checked f network sheet
           let five : o + 2 + 1 + w + (1 + w) ≡ o + 4 + w + w = omega arith in
           demand .forth network (o + 4 + w + w) (let h = room in omega arith) (c .bytes, rw five at (tests .demanded))
 
-      module _ (entries : List ℕ) (n : Noted f network sheet (nodeCount network) entries) where
+      module _ (sheet : List ℕ) (s : CheckedSheet f sheet) (entries : List ℕ) (n : Noted f network sheet (nodeCount network) entries) where
         note-formed : routeFormed w sheet (noteOffset f entries i) ≡ true
         unfolding noteOffset entryOk entryFormed
         note-formed =
             let e = getD entries i 0 in
             let h = n .row i l ours .there in
             and-r (fragmentFormed f sheetLead sheet (entryOffset f sheetLead e)) (routeFormed w sheet (entryOffset f sheetLead e + sheetLead))
-            (and-r (leb (least (entryId f sheetLead sheet) e) (entryId f sheetLead sheet e)) _ (c .formed .entries e h))
+            (and-r (leb (least (entryId f sheetLead sheet) e) (entryId f sheetLead sheet e)) _ (s .formed .entries e h))
 
         note-bytes : noteOffset f entries i + w ≤ length sheet → routeBytes w (noteIn f sheet entries i) ≡ take w (drop (noteOffset f entries i) sheet)
         unfolding noteIn
-        note-bytes h = route w enough .forth sheet (noteOffset f entries i) h (c .sheet-bytes, note-formed)
+        note-bytes h = route w enough .forth sheet (noteOffset f entries i) h (s .bytes, note-formed)
 
         module _ (h : noteOffset f entries i + w ≤ length sheet) where
           pub promised-bytes : boxBytes w (withPromise (boxIn f network i) (noteIn f sheet entries i)) ≡ promisedRow w network o sheet (noteOffset f entries i)

@@ -1,7 +1,8 @@
-// Laying: a fragment's record, laid down part after part in a lent buffer that has the room.
+// Laying: a fragment's record, laid down part after part in what remains of a lent buffer.
+//
+// It asks for two records that a check has not refused and for the tables of `marking`.
 mod parts;
 mod rows;
 mod whole;
 
 pub use whole::lay;
-pub use whole::size_of;

@@ -6,7 +6,9 @@ ghost use lib.Seq.{sets};
 ghost use Rattle.lists.specs.Laid.{over};
 ghost use Rattle.records.specs.Form.{Usable};
 ghost use Rattle.records.specs.Layout.{nodeCount, edgeCount, edgeOffset};
-ghost use Rattle.laying.specs.Pieces.{promisedRow, assumedRow, nodeBytes, edgeBytes, Tabled};
+ghost use Rattle.records.specs.Rows.{Filled};
+ghost use Rattle.marking.specs.Tables.{CheckedNetwork};
+ghost use Rattle.laying.specs.Pieces.{promisedRow, assumedRow, nodeBytes, edgeBytes, NodeTables};
 use marking::note_offset;
 use marking::row_at;
 use numbers::put_u8;
@@ -52,17 +54,14 @@ pub fn put_node(
     form: Form,
     network: &[u8],
     sheet: &[u8],
-    rows: &[u16; 65536],
     entries: &[u16; 1024],
-    numbers: &[u8; 1024],
     parts: &[u8; 1024],
-    k: u8,
     i: usize,
     out: &mut [u8],
 ) -> usize
-    requires { ⌜ Tabled form (now network) (now sheet) (now rows) (now entries) (now numbers) (now parts) k × (i < nodeCount (now network)) × (length (nodeBytes form (now network) (now sheet) k i) ≤ length (now out)) ⌝ }
-    ensures size { λ r. ⌜ r ≡ length (nodeBytes form (now (network .entry)) (now (sheet .entry)) k i) ⌝ }
-    ensures laid { λ _. ⌜ now (out .exit) ≡ over (nodeBytes form (now (network .entry)) (now (sheet .entry)) k i) (now (out .entry)) ⌝ }
+    requires { ⌜ NodeTables form (now network) (now sheet) (now entries) (now parts) × (i < nodeCount (now network)) × (length (nodeBytes form (now network) (now sheet) (now entries) (now parts) i) ≤ length (now out)) ⌝ }
+    ensures size { λ r. ⌜ r ≡ length (nodeBytes form (now (network .entry)) (now (sheet .entry)) (now (entries .entry)) (now (parts .entry)) i) ⌝ }
+    ensures laid { λ _. ⌜ now (out .exit) ≡ over (nodeBytes form (now (network .entry)) (now (sheet .entry)) (now (entries .entry)) (now (parts .entry)) i) (now (out .entry)) ⌝ }
 {
     let size = 9 + form.route + form.route;
     let at = node_offset(form, network, i);
@@ -73,12 +72,12 @@ pub fn put_node(
             size
         }
         2 => {
-            let note = note_offset(form, network, sheet, rows, entries, i);
+            let note = note_offset(form, network, sheet, entries, i);
             put_promised(form, network, at, sheet, note, out);
             size
         }
         _ => {
-            let note = note_offset(form, network, sheet, rows, entries, i);
+            let note = note_offset(form, network, sheet, entries, i);
             put_assumed(form, network, at, sheet, note, out);
             size
         }
@@ -89,19 +88,16 @@ pub fn put_node(
 pub fn put_edge(
     form: Form,
     network: &[u8],
-    sheet: &[u8],
     rows: &[u16; 65536],
-    entries: &[u16; 1024],
     numbers: &[u8; 1024],
-    parts: &[u8; 1024],
     k: u8,
     j: usize,
     at: usize,
     out: &mut [u8],
 ) -> usize
-    requires { ⌜ Tabled form (now network) (now sheet) (now rows) (now entries) (now numbers) (now parts) k × (j < edgeCount (now network)) × (at ≡ edgeOffset form (now network) j) × (length (edgeBytes form (now network) (now sheet) k j) ≤ length (now out)) ⌝ }
-    ensures size { λ r. ⌜ r ≡ length (edgeBytes form (now (network .entry)) (now (sheet .entry)) k j) ⌝ }
-    ensures laid { λ _. ⌜ now (out .exit) ≡ over (edgeBytes form (now (network .entry)) (now (sheet .entry)) k j) (now (out .entry)) ⌝ }
+    requires { ⌜ CheckedNetwork form (now network) × Filled form (now network) (now rows) × (j < edgeCount (now network)) × (at ≡ edgeOffset form (now network) j) × (length (edgeBytes form (now network) (now numbers) k j) ≤ length (now out)) ⌝ }
+    ensures size { λ r. ⌜ r ≡ length (edgeBytes form (now (network .entry)) (now (numbers .entry)) k j) ⌝ }
+    ensures laid { λ _. ⌜ now (out .exit) ≡ over (edgeBytes form (now (network .entry)) (now (numbers .entry)) k j) (now (out .entry)) ⌝ }
 {
     if numbers[row_at(form, network, rows, at)] != k {
         return 0;

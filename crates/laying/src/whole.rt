@@ -4,12 +4,13 @@ ghost use Prim.Native.Nat.{_≤_, _<_};
 ghost use lib.ListN.{length};
 ghost use lib.Seq.{sets};
 ghost use Rattle.lists.specs.Gather.{count};
-ghost use Rattle.lists.specs.Laid.{over};
+ghost use Rattle.lists.specs.Laid.{over, placed};
 ghost use Rattle.records.specs.Form.{Usable};
 ghost use Rattle.records.specs.Layout.{nodeCount, edgeCount};
+ghost use Rattle.records.specs.Rows.{Filled};
 ghost use Rattle.reading.specs.Whole.{writeNetwork};
 ghost use Rattle.marking.specs.Parts.{keeps};
-ghost use Rattle.marking.specs.Tables.{reaches};
+ghost use Rattle.marking.specs.Marks.{reaches};
 ghost use Rattle.laying.specs.Pieces.{countBytes, headBytes, fragmentIn, sizeOf, Tabled};
 use crate::parts::lay_parts;
 use numbers::put_u8;
@@ -40,7 +41,7 @@ fn put_head(size: u32, nodes: u16, edges: u16, policies: u8, out: &mut [u8])
 }
 
 // The length of the record by its counts.
-pub fn size_of(form: Form, network: &[u8], nodes: usize, edges: usize) -> usize
+fn size_of(form: Form, network: &[u8], nodes: usize, edges: usize) -> usize
     requires { ⌜ Usable form × (10 ≤ length (now network)) × (nodes ≤ 65535) × (edges ≤ 65535) ⌝ }
     ensures { λ r. ⌜ (r ≡ sizeOf form (now (network .entry)) nodes edges) × (r < 16777216) ⌝ }
 {
@@ -49,7 +50,8 @@ pub fn size_of(form: Form, network: &[u8], nodes: usize, edges: usize) -> usize
     stride(behind, 5, edges)
 }
 
-// The whole record of the fragment, whose length and counts are at hand.
+// The record of the fragment over the start of a buffer, where there is room for it; its length and the room are known before the
+// first byte is written. Answers the length.
 pub fn lay(
     form: Form,
     network: &[u8],
@@ -59,15 +61,19 @@ pub fn lay(
     numbers: &[u8; 1024],
     parts: &[u8; 1024],
     k: u8,
-    size: usize,
     nodes: usize,
     edges: usize,
     out: &mut [u8],
-)
-    requires { ⌜ Tabled form (now network) (now sheet) (now rows) (now entries) (now numbers) (now parts) k × (nodes ≡ count (keeps form (now network) (now sheet) k) (nodeCount (now network))) × (edges ≡ count (reaches form (now network) (now sheet) k) (edgeCount (now network))) ⌝ }
-    requires { ⌜ (size ≡ sizeOf form (now network) nodes edges) × (size < 16777216) × (size ≤ length (now out)) ⌝ }
-    ensures { λ _. ⌜ now (out .exit) ≡ over (writeNetwork form (fragmentIn form (now (network .entry)) (now (sheet .entry)) k)) (now (out .entry)) ⌝ }
+) -> usize
+    requires { ⌜ Tabled form (now network) (now sheet) (now entries) (now numbers) (now parts) k × Filled form (now network) (now rows) ⌝ }
+    requires { ⌜ (nodes ≡ count (keeps form (now network) (now sheet) k) (nodeCount (now network))) × (edges ≡ count (reaches form (now network) (now numbers) k) (edgeCount (now network))) ⌝ }
+    ensures size { λ r. ⌜ r ≡ length (writeNetwork form (fragmentIn form (now (network .entry)) (now (sheet .entry)) k)) ⌝ }
+    ensures laid { λ _. ⌜ now (out .exit) ≡ placed (writeNetwork form (fragmentIn form (now (network .entry)) (now (sheet .entry)) k)) (now (out .entry)) ⌝ }
 {
+    let size = size_of(form, network, nodes, edges);
+    if out.len() < size {
+        return size;
+    }
     put_head(size as u32, nodes as u16, edges as u16, network[9], out);
     lay_parts(
         form,
@@ -80,4 +86,5 @@ pub fn lay(
         k,
         &mut out[10..],
     );
+    size
 }

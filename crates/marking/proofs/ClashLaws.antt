@@ -16,17 +16,16 @@ use Rattle.routes.specs.Order.{same}
 use Rattle.routes.specs.declared.Route.{Route}
 use Rattle.networks.specs.Cut.{leaves, offNote, clashes}
 use Rattle.networks.specs.House.{house}
-use Rattle.networks.specs.Network.{own}
 use Rattle.networks.specs.Sheets.{note}
-use Rattle.records.specs.Layout.{nodeCount, edgeCount, nodeOffset}
+use Rattle.records.specs.Layout.{nodeCount, nodeOffset}
 use Rattle.records.specs.Node.{nodeId, isOwn, promising}
 use Rattle.records.specs.declared.Form.{Form}
 use Rattle.reading.specs.Parts.{promiseAt}
 use Rattle.reading.specs.Whole.{readNetwork, readSheet}
+use Rattle.marking.specs.Marks.{Leaving}
 use Rattle.marking.specs.Parts.{noteOffset, noteIn}
-use Rattle.marking.specs.Tables.{Checked, unclashed, Noted, crosses, Marked}
+use Rattle.marking.specs.Tables.{unclashed, Noted}
 use Rattle.marking.proofs.Said.{ownIn, meets-own, meets-input}
-use Rattle.marking.proofs.MarkSaid.{leaves-at}
 use Rattle.marking.proofs.RowLaws.{index-small, node-there, promise-there, noted}
 
 -- a mark by its test, and back
@@ -51,7 +50,7 @@ module _ (w : ℕ) (b : List ℕ) (o : ℕ) (t : Bool) (e : t ≡ promising w b 
       let four : o + 3 + w + 1 ≡ o + 4 + w = omega arith in
       rw (not-true (eqb (getD b (o + 3 + w) 0) 0) z, four)
 
-module _ (f : Form) (network sheet rows : List ℕ) (c : Checked f network sheet rows) (i : ℕ) (l : i < nodeCount network) where
+module _ (f : Form) (network sheet : List ℕ) (i : ℕ) (l : i < nodeCount network) where
   -- an input
   module _ (own? : Bool) (e : own? ≡ isOwn f network i) (y : not own? ≡ true) where
     foreign : isOwn f network i ≡ false
@@ -70,9 +69,10 @@ module _ (f : Form) (network sheet rows : List ℕ) (c : Checked f network sheet
     unfolding unclashed
     clash-own = ap not (meets-own f network i ours (clashes (house 65535) (readNetwork f network) (readSheet f sheet)))
 
-    module _ (marks : List ℕ) (m : Marked f network (crosses f network sheet) (edgeCount network) marks) where
+    module _ (marks : List ℕ) (m : Leaving f network sheet marks) where
       left? : getD marks i 0 ≡ cond (leaves (readNetwork f network) (readSheet f sheet) (nodeId f network i)) 1 0
-      left? = leaves-at f network sheet rows c i marks l ours m
+      unfolding Leaving
+      left? = m i l ours
 
       stays : getD marks i 0 ≡ 0 → leaves (readNetwork f network) (readSheet f sheet) (nodeId f network i) ≡ false
       stays z = mark-zero _ _ left? z
@@ -95,7 +95,7 @@ module _ (f : Form) (network sheet rows : List ℕ) (c : Checked f network sheet
             sym (clash-own ∙ rw (
               goes d,
               promise-some (f .route) network (nodeOffset f network i) p (r ∙ ap (promising (f .route) network) q) (not-false p s),
-              noted f network sheet rows c i l ours entries g,
+              noted f network sheet entries i l ours g,
               ← q,
               ← a,
               ← h,

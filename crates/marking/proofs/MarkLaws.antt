@@ -25,7 +25,8 @@ use Rattle.records.specs.Rows.{Filled}
 use Rattle.records.specs.declared.Form.{Form}
 use Rattle.reading.proofs.Said.{Edge, edge-parts}
 use Rattle.lists.specs.Test.{and-l}
-use Rattle.marking.specs.Tables.{Checked, rowNumber, Numbered, crosses, reaches, Marked, markedBy}
+use Rattle.marking.specs.Marks.{toNumber, fromNumber, crosses, reaches, Marked, markedBy}
+use Rattle.marking.specs.Tables.{CheckedNetwork}
 
 -- the row of a node by its id
 module _ (f : Form) (b rows : List ℕ) (id at row : ℕ) (filled : Filled f b rows) (h : boxed f b (u16At b at) ≡ true) (p : id ≡ u16At b at) (m : Fits w16 id)
@@ -102,7 +103,7 @@ unfolding Marked every firstBad
 marked-none f b property few i l = getD-replicate 1024 i 0 0 (omega arith)
 
 -- one edge
-module _ (f : Form) (network sheet rows : List ℕ) (c : Checked f network sheet rows) (j at : ℕ) (l : j < edgeCount network) (e : at ≡ edgeOffset f network j) where
+module _ (f : Form) (network : List ℕ) (c : CheckedNetwork f network) (j at : ℕ) (l : j < edgeCount network) (e : at ≡ edgeOffset f network j) where
   edge : Edge f network j
   edge = edge-parts f network j (c .sound .edges j l)
 
@@ -133,61 +134,56 @@ module _ (f : Form) (network sheet rows : List ℕ) (c : Checked f network sheet
   pub from-there : boxed f network (u16At network (at + 2)) ≡ true
   from-there = rw from-is (edge .from-there)
 
-  module _ (numbers : List ℕ) (m : Numbered f network sheet (nodeCount network) numbers) (k to : ℕ) (p : to ≡ rowOf f network (u16At network at)) where
-    to-number : getD numbers to 0 ≡ rowNumber f network sheet (rowOf f network (edgeTo f network j))
-    to-number = let q = row-within f network (u16At network at) to-there in rw (p, to-is) (m .row (rowOf f network (edgeTo f network j)) (rw to-is at q))
-
-    pub edge-reaches : eqb (getD numbers to 0) k ≡ reaches f network sheet k j
-    unfolding reaches
-    edge-reaches = rw to-number
+  -- the numbers of its ends
+  module _ (numbers : List ℕ) (k to : ℕ) (p : to ≡ rowOf f network (u16At network at)) where
+    pub edge-reaches : eqb (getD numbers to 0) k ≡ reaches f network numbers k j
+    unfolding reaches toNumber
+    edge-reaches = rw (p, to-is)
 
     module _ (from : ℕ) (r : from ≡ rowOf f network (u16At network (at + 2))) (marks marks′ : List ℕ) where
-      from-number : getD numbers from 0 ≡ rowNumber f network sheet (rowOf f network (edgeFrom f network j))
-      from-number = let q = row-within f network (u16At network (at + 2)) from-there in rw (r, from-is) (m .row (rowOf f network (edgeFrom f network j)) (rw from-is at q))
+      pub edge-left : marks′ ≡ cond (not (eqb (getD numbers to 0) (getD numbers from 0))) (set marks from 1) marks → marks′ ≡ markedBy f network (crosses f network numbers) j marks
+      unfolding markedBy crosses toNumber fromNumber
+      edge-left q = q ∙ rw (p, r, to-is, from-is)
 
-      pub edge-left : marks′ ≡ cond (not (eqb (getD numbers to 0) (getD numbers from 0))) (set marks from 1) marks → marks′ ≡ markedBy f network (crosses f network sheet) j marks
-      unfolding markedBy crosses
-      edge-left q = q ∙ rw (from-number, to-number, r, from-is)
-
-      pub edge-fed : marks′ ≡ cond (eqb (getD numbers to 0) k) (set marks from 1) marks → marks′ ≡ markedBy f network (reaches f network sheet k) j marks
-      unfolding markedBy reaches
-      edge-fed q = q ∙ rw (to-number, r, from-is)
+      pub edge-fed : marks′ ≡ cond (eqb (getD numbers to 0) k) (set marks from 1) marks → marks′ ≡ markedBy f network (reaches f network numbers k) j marks
+      unfolding markedBy reaches toNumber
+      edge-fed q = q ∙ rw (p, r, to-is, from-is)
 
 pub ruleset marking = (to-room, from-room, from-at, to-there, from-there, edge-reaches, edge-left, edge-fed)
 
 -- what the loop over the edges knows
-pub record Marking (f : Form) (network sheet : List ℕ) (k n j at kept : ℕ) (leaves feeds : List ℕ) : Type 0 where
+pub record Marking (f : Form) (network numbers : List ℕ) (k n j at kept : ℕ) (leaves feeds : List ℕ) : Type 0 where
   pub within : j ≤ n
   pub here : at ≡ edgeOffset f network j
-  pub counted : kept ≡ count (reaches f network sheet k) j
+  pub counted : kept ≡ count (reaches f network numbers k) j
   pub left-long : length leaves ≡ 1024
   pub fed-long : length feeds ≡ 1024
-  pub left : Marked f network (crosses f network sheet) j leaves
-  pub fed : Marked f network (reaches f network sheet k) j feeds
+  pub left : Marked f network (crosses f network numbers) j leaves
+  pub fed : Marked f network (reaches f network numbers k) j feeds
 
-module _ (f : Form) (network sheet : List ℕ) (k n : ℕ) where
+module _ (f : Form) (network numbers : List ℕ) (k n : ℕ) where
   pub marking-start : (at : ℕ) (leaves feeds : List ℕ) → at ≡ edgeOffset f network 0 → length leaves ≡ 1024 → length feeds ≡ 1024
-      → Marked f network (crosses f network sheet) 0 leaves → Marked f network (reaches f network sheet k) 0 feeds → Marking f network sheet k n 0 at 0 leaves feeds
+      → Marked f network (crosses f network numbers) 0 leaves → Marked f network (reaches f network numbers k) 0 feeds → Marking f network numbers k n 0 at 0 leaves feeds
   marking-start at leaves feeds e p q a b = record { within = omega arith; here = e; counted = count-none _; left-long = p; fed-long = q; left = a; fed = b }
 
-  module _ (j at kept : ℕ) (leaves feeds : List ℕ) (h : Marking f network sheet k n j at kept leaves feeds) where
+  module _ (j at kept : ℕ) (leaves feeds : List ℕ) (h : Marking f network numbers k n j at kept leaves feeds) where
     done : n ≤ j → j ≡ n
     done l = let w = h .within in omega arith
 
-    pub marking-count : n ≤ j → kept ≡ count (reaches f network sheet k) n
+    pub marking-count : n ≤ j → kept ≡ count (reaches f network numbers k) n
     marking-count l = rw (← done l) (h .counted)
 
-    pub marking-left : n ≤ j → Marked f network (crosses f network sheet) n leaves
+    pub marking-left : n ≤ j → Marked f network (crosses f network numbers) n leaves
     marking-left l = rw (← done l) (h .left)
 
-    pub marking-fed : n ≤ j → Marked f network (reaches f network sheet k) n feeds
+    pub marking-fed : n ≤ j → Marked f network (reaches f network numbers k) n feeds
     marking-fed l = rw (← done l) (h .fed)
 
-    module _ (l : j < n) (e : n ≡ edgeCount network) (rows : List ℕ) (c : Checked f network sheet rows) where
+    module _ (l : j < n) (e : n ≡ edgeCount network) (c : CheckedNetwork f network) where
       pub marking-at : length network < 2 ^ 64 → Fits w64 (at + 5)
       marking-at g = let p = h .here in omega (arith, edge-room f network (c .room) j (omega arith))
 
-      module _ (t : Bool) (one : ℕ) (q : t ≡ reaches f network sheet k j) (o : one ≡ cond t 1 0) where
+      module _ (t : Bool) (one : ℕ) (q : t ≡ reaches f network numbers k j) (o : one ≡ cond t 1 0) where
         one-small : one ≤ 1
         one-small = go t o
           where
@@ -196,10 +192,10 @@ module _ (f : Form) (network sheet : List ℕ) (k n : ℕ) where
             go false p = omega arith
 
         pub marking-kept : Fits w64 n → Fits w64 (kept + one)
-        marking-kept g = let s = one-small in let p = h .counted in omega (arith, count-le (reaches f network sheet k) j)
+        marking-kept g = let s = one-small in let p = h .counted in omega (arith, count-le (reaches f network numbers k) j)
 
-        pub marking-next : (leaves′ feeds′ : List ℕ) → leaves′ ≡ markedBy f network (crosses f network sheet) j leaves
-            → feeds′ ≡ markedBy f network (reaches f network sheet k) j feeds → Marking f network sheet k n (j + 1) (at + 5) (kept + one) leaves′ feeds′
+        pub marking-next : (leaves′ feeds′ : List ℕ) → leaves′ ≡ markedBy f network (crosses f network numbers) j leaves
+            → feeds′ ≡ markedBy f network (reaches f network numbers k) j feeds → Marking f network numbers k n (j + 1) (at + 5) (kept + one) leaves′ feeds′
         marking-next leaves′ feeds′ a b =
             let p = h .here in
             let few = c .room .few in
@@ -209,7 +205,7 @@ module _ (f : Form) (network sheet : List ℕ) (k n : ℕ) where
             record {
               within = omega arith;
               here = omega (arith, edge-after f network j);
-              counted = rw (h .counted, o, q) (sym (count-next (reaches f network sheet k) j));
+              counted = rw (h .counted, o, q) (sym (count-next (reaches f network numbers k) j));
               left-long = marked-long f network _ j leaves leaves′ (h .left-long) a;
               fed-long = marked-long f network _ j feeds feeds′ (h .fed-long) b;
               left = marked-next f network _ j leaves leaves′ (h .left-long) (omega arith) there (h .left) rise a;

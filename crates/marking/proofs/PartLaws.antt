@@ -20,14 +20,14 @@ use Rattle.routes.specs.declared.Route.{Route}
 use Rattle.networks.specs.Cut.{leaves, feeds, only, promised}
 use Rattle.networks.specs.Network.{Box, own, input}
 use Rattle.networks.specs.Sheets.{number, note}
-use Rattle.records.specs.Layout.{nodeCount, edgeCount, nodeOffset}
+use Rattle.records.specs.Layout.{nodeCount, nodeOffset}
 use Rattle.records.specs.Node.{nodeId, isOwn, promising}
 use Rattle.records.specs.declared.Form.{Form}
 use Rattle.reading.specs.Whole.{HouseNetwork, HouseSheet, readNetwork, readSheet}
+use Rattle.marking.specs.Marks.{Leaving, Feeding}
 use Rattle.marking.specs.Parts.{noteIn, pieceIn, keeps, withPromise, assumedOf, pieceOf, Part, Parted}
-use Rattle.marking.specs.Tables.{Checked, boxIn, rowNumber, Numbered, Noted, crosses, reaches, Marked}
+use Rattle.marking.specs.Tables.{CheckedNetwork, boxIn, rowNumber, Numbered, Noted}
 use Rattle.marking.proofs.Said.{ownIn, own-box, input-box}
-use Rattle.marking.proofs.MarkSaid.{leaves-at, feeds-at}
 use Rattle.marking.proofs.RowLaws.{index-small, node-there, noted, own-piece, other-piece}
 use Rattle.marking.proofs.ClashLaws.{mark-zero, mark-one, promise-none, promise-some}
 
@@ -36,7 +36,7 @@ promised-stays : (p note : Option Route) → promised p false note ≡ p
 promised-stays none note = refl
 promised-stays (some q) note = refl
 
-module _ (f : Form) (network sheet rows : List ℕ) (c : Checked f network sheet rows) (i : ℕ) (l : i < nodeCount network) (entries : List ℕ) (k : ℕ) where
+module _ (f : Form) (network sheet : List ℕ) (i : ℕ) (l : i < nodeCount network) (entries : List ℕ) (k : ℕ) where
   abbrev N : HouseNetwork
   N = readNetwork f network
 
@@ -53,9 +53,10 @@ module _ (f : Form) (network sheet rows : List ℕ) (c : Checked f network sheet
     fed-input true q = rw (input-box f network i foreign, q)
     fed-input false q = rw (input-box f network i foreign, q)
 
-    pub part-input : (fed : List ℕ) → Marked f network (reaches f network sheet k) (edgeCount network) fed → Part f network sheet entries k i (getD fed i 0)
+    pub part-input : (fed : List ℕ) → Feeding f network sheet k fed → Part f network sheet entries k i (getD fed i 0)
+    unfolding Feeding
     part-input fed m =
-        let v = feeds-at f network sheet rows c k i fed l m in
+        let v = m i l in
         rw v (record { is = fed-input (feeds N S (only k) (nodeId f network i)) refl; ours = λ h. absurd (low (feeds N S (only k) (nodeId f network i)) h) })
       where
         low : (t : Bool) → 2 ≤ cond t 1 0 → ⊥
@@ -72,15 +73,17 @@ module _ (f : Form) (network sheet rows : List ℕ) (c : Checked f network sheet
     number-is = m .row i l ∙ rw mine
 
     -- an own node of another fragment: an input that assumes the note, where it feeds this one
-    module _ (d : getD numbers i 0 ≡ k → ⊥) (fed : List ℕ) (g : Marked f network (reaches f network sheet k) (edgeCount network) fed) where
+    module _ (d : getD numbers i 0 ≡ k → ⊥) (fed : List ℕ) (g : Feeding f network sheet k fed) where
       other : pieceIn f network sheet k i ≡ cond (feeds N S (only k) (nodeId f network i)) (some (input (record { id = nodeId f network i; assumed = noteIn f sheet entries i }))) none
-      other = other-piece f network sheet rows c i l mine entries n k (λ z. d (number-is ∙ z))
+      other = other-piece f network sheet entries i l mine n k (λ z. d (number-is ∙ z))
 
       hungry : getD fed i 0 ≡ 0 → feeds N S (only k) (nodeId f network i) ≡ false
-      hungry z = mark-zero _ _ (feeds-at f network sheet rows c k i fed l g) z
+      unfolding Feeding
+      hungry z = mark-zero _ _ (g i l) z
 
       feeding : (getD fed i 0 ≡ 0 → ⊥) → feeds N S (only k) (nodeId f network i) ≡ true
-      feeding z = mark-one _ _ (feeds-at f network sheet rows c k i fed l g) z
+      unfolding Feeding
+      feeding z = mark-one _ _ (g i l) z
 
       pub part-other : getD fed i 0 ≡ 0 → Part f network sheet entries k i 0
       unfolding pieceOf
@@ -97,13 +100,14 @@ module _ (f : Form) (network sheet rows : List ℕ) (c : Checked f network sheet
       }
 
     -- an own node of this fragment
-    module _ (q : getD numbers i 0 ≡ k) (marks : List ℕ) (g : Marked f network (crosses f network sheet) (edgeCount network) marks) where
+    module _ (q : getD numbers i 0 ≡ k) (marks : List ℕ) (g : Leaving f network sheet marks) where
       kept : (p : Option Route) → promised (ownIn f network i .promise) (leaves N S (nodeId f network i)) (note S (nodeId f network i)) ≡ p
           → pieceIn f network sheet k i ≡ some (own (record { id = nodeId f network i; initial = ownIn f network i .initial; promise = p; demand = ownIn f network i .demand }))
-      kept p h = own-piece f network sheet rows c i l mine entries n k (sym number-is ∙ q) ∙ rw h
+      kept p h = own-piece f network sheet entries i l mine n k (sym number-is ∙ q) ∙ rw h
 
       left? : getD marks i 0 ≡ cond (leaves N S (nodeId f network i)) 1 0
-      left? = leaves-at f network sheet rows c i marks l mine g
+      unfolding Leaving
+      left? = g i l mine
 
       stays : getD marks i 0 ≡ 0 → leaves N S (nodeId f network i) ≡ false
       stays z = mark-zero _ _ left? z
@@ -136,7 +140,7 @@ module _ (f : Form) (network sheet rows : List ℕ) (c : Checked f network sheet
         }
           where
             said : promised (ownIn f network i .promise) (leaves N S (nodeId f network i)) (note S (nodeId f network i)) ≡ some (noteIn f sheet entries i)
-            said = rw (promise-none (f .route) network (nodeOffset f network i) p says z, goes d, noted f network sheet rows c i l mine entries n)
+            said = rw (promise-none (f .route) network (nodeOffset f network i) p says z, goes d, noted f network sheet entries i l mine n)
 
 pub ruleset parting = (index-small, node-there, part-input, part-other, part-assumed, part-stays, part-promised, part-noted)
 
@@ -190,7 +194,7 @@ module _ (f : Form) (network sheet entries : List ℕ) (k n : ℕ) where
       }
 
 -- rows are few enough for a table
-pub rows-few : (f : Form) (network sheet rows : List ℕ) → Checked f network sheet rows → nodeCount network ≤ 1024
-rows-few f network sheet rows c = let r = c .room .few in let u = c .room .usable .few in omega arith
+pub rows-few : (f : Form) (network : List ℕ) → CheckedNetwork f network → nodeCount network ≤ 1024
+rows-few f network c = let r = c .room .few in let u = c .room .usable .few in omega arith
 
 pub ruleset partings = (sorting-start, sorting-count, sorting-parts, sorting-kept, sorting-next, rows-few)

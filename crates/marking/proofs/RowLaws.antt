@@ -24,70 +24,69 @@ use Rattle.records.specs.Offsets.{entry-room, node-room}
 use Rattle.records.specs.declared.Form.{Form}
 use Rattle.reading.specs.Whole.{HouseNetwork, HouseSheet, readNetwork, readSheet}
 use Rattle.marking.specs.Parts.{noteOffset, noteIn, pieceIn}
-use Rattle.marking.specs.Tables.{Checked, Noted}
+use Rattle.marking.specs.Tables.{CheckedNetwork, CheckedSheet, Noted}
 use Rattle.marking.proofs.Said.{ownIn, own-box, note-there}
 
-module _ (f : Form) (network sheet rows : List ℕ) (c : Checked f network sheet rows) where
+module _ (f : Form) (network : List ℕ) (c : CheckedNetwork f network) (i : ℕ) (l : i < nodeCount network) where
+  pub index-small : i < 1024
+  index-small = let r = c .room .few in let u = c .room .usable .few in omega arith
+
+  pub node-there : (at : ℕ) → at ≡ nodeOffset f network i → at + (9 + f .route + f .route) ≤ length network
+  unfolding nodeWidth
+  node-there at e = rw e (node-room f network (c .room) i l)
+
+  pub promise-there : (at : ℕ) → at ≡ nodeOffset f network i → at + 4 + f .route + f .route ≤ length network
+  promise-there at e = let h = node-there at e in omega arith
+
+module _ (f : Form) (network sheet entries : List ℕ) (i : ℕ) (l : i < nodeCount network) (ours : isOwn f network i ≡ true)
+    (n : Noted f network sheet (nodeCount network) entries) where
+  entry-there : getD entries i 0 < entryCount sheet
+  entry-there = n .row i l ours .there
+
+  -- where the note stands
+  module _ (entry : ℕ) (e : entry ≡ getD entries i 0) where
+    pub note-entry : Fits w16 entry → entry ≤ 65535
+    note-entry g = omega arith
+
+    module _ (at : ℕ) (q : at ≡ entryOffset f sheetLead entry) where
+      pub note-offset : at + 3 ≡ noteOffset f entries i
+      unfolding noteOffset
+      note-offset = rw (q, e)
+
+      pub note-room : CheckedSheet f sheet → at + 3 + f .route ≤ length sheet
+      note-room s = let h = entry-room f sheetLead sheet (s .room) entry (rw e entry-there) in omega arith
+
+      pub note-sum : CheckedSheet f sheet → length sheet < 2 ^ 64 → Fits w64 (at + 3)
+      note-sum s g = let h = note-room s in omega arith
+
   abbrev N : HouseNetwork
   N = readNetwork f network
 
   abbrev S : HouseSheet
   S = readSheet f sheet
 
-  module _ (i : ℕ) (l : i < nodeCount network) where
-    pub index-small : i < 1024
-    index-small = let r = c .room .few in let u = c .room .usable .few in omega arith
+  -- the note that the sheet has for the box
+  pub noted : note S (nodeId f network i) ≡ some (noteIn f sheet entries i)
+  unfolding noteIn noteOffset
+  noted =
+      let e = n .row i l ours .is in
+      note-there f sheet (nodeId f network i) (rw (← e) entry-there) ∙ rw (← e)
 
-    pub node-there : (at : ℕ) → at ≡ nodeOffset f network i → at + (9 + f .route + f .route) ≤ length network
-    unfolding nodeWidth
-    node-there at e = rw e (node-room f network (c .room) i l)
+  -- the own box in its fragment
+  pub own-piece : (k : ℕ) → number S (nodeId f network i) ≡ k → pieceIn f network sheet k i
+      ≡ some (own (record {
+        id = nodeId f network i;
+        initial = ownIn f network i .initial;
+        promise = promised (ownIn f network i .promise) (leaves N S (nodeId f network i)) (note S (nodeId f network i));
+        demand = ownIn f network i .demand;
+      }))
+  unfolding pieceIn
+  own-piece k e = ap (piece N S (only k)) (own-box f network i ours) ∙ rw (eq-eqb (number S (nodeId f network i)) k e)
 
-    pub promise-there : (at : ℕ) → at ≡ nodeOffset f network i → at + 4 + f .route + f .route ≤ length network
-    promise-there at e = let h = node-there at e in omega arith
-
-    module _ (ours : isOwn f network i ≡ true) (entries : List ℕ) (n : Noted f network sheet (nodeCount network) entries) where
-      entry-there : getD entries i 0 < entryCount sheet
-      entry-there = n .row i l ours .there
-
-      pub note-entry : (entry : ℕ) → entry ≡ getD entries i 0 → Fits w16 entry → entry ≤ 65535
-      note-entry entry e g = omega arith
-
-      pub note-offset : (entry at : ℕ) → entry ≡ getD entries i 0 → at ≡ entryOffset f sheetLead entry → at + 3 ≡ noteOffset f entries i
-      unfolding noteOffset
-      note-offset entry at e q = rw (q, e)
-
-      note-fits : noteOffset f entries i + f .route ≤ length sheet
-      unfolding noteOffset
-      note-fits = let h = entry-room f sheetLead sheet (c .sheet-room) (getD entries i 0) entry-there in omega arith
-
-      pub note-room : (entry at : ℕ) → entry ≡ getD entries i 0 → at ≡ entryOffset f sheetLead entry → at + 3 + f .route ≤ length sheet
-      note-room entry at e q = let h = note-fits in let g = note-offset entry at e q in omega arith
-
-      pub note-sum : (entry at : ℕ) → entry ≡ getD entries i 0 → at ≡ entryOffset f sheetLead entry → length sheet < 2 ^ 64 → Fits w64 (at + 3)
-      note-sum entry at e q g = let h = note-room entry at e q in omega arith
-
-      -- the note that the sheet has for the box
-      pub noted : note S (nodeId f network i) ≡ some (noteIn f sheet entries i)
-      unfolding noteIn noteOffset
-      noted =
-          let e = n .row i l ours .is in
-          note-there f sheet (nodeId f network i) (rw (← e) entry-there) ∙ rw (← e)
-
-      -- the own box in its fragment
-      pub own-piece : (k : ℕ) → number S (nodeId f network i) ≡ k → pieceIn f network sheet k i
-          ≡ some (own (record {
-            id = nodeId f network i;
-            initial = ownIn f network i .initial;
-            promise = promised (ownIn f network i .promise) (leaves N S (nodeId f network i)) (note S (nodeId f network i));
-            demand = ownIn f network i .demand;
-          }))
-      unfolding pieceIn
-      own-piece k e = ap (piece N S (only k)) (own-box f network i ours) ∙ rw (eq-eqb (number S (nodeId f network i)) k e)
-
-      -- and in another one
-      pub other-piece : (k : ℕ) → (number S (nodeId f network i) ≡ k → ⊥) → pieceIn f network sheet k i
-          ≡ cond (feeds N S (only k) (nodeId f network i)) (some (input (record { id = nodeId f network i; assumed = noteIn f sheet entries i }))) none
-      unfolding pieceIn
-      other-piece k d = ap (piece N S (only k)) (own-box f network i ours) ∙ rw (ne-eqb (number S (nodeId f network i)) k d, noted)
+  -- and in another one
+  pub other-piece : (k : ℕ) → (number S (nodeId f network i) ≡ k → ⊥) → pieceIn f network sheet k i
+      ≡ cond (feeds N S (only k) (nodeId f network i)) (some (input (record { id = nodeId f network i; assumed = noteIn f sheet entries i }))) none
+  unfolding pieceIn
+  other-piece k d = ap (piece N S (only k)) (own-box f network i ours) ∙ rw (ne-eqb (number S (nodeId f network i)) k d, noted)
 
 pub ruleset noting = (index-small, note-entry, note-offset, note-room, note-sum)

@@ -4,7 +4,7 @@
 --     asking                whether a row is an own one with a number (18)
 use Prim.Native.Nat.{ℕ, _+_, _^_, _≤_, _<_}
 use native.Mathlib.Omega.{arith}
-use mathlib.Core.Bool.{Bool, true, false, cond, not, false≢true}
+use mathlib.Core.Bool.{Bool, true, false, cond, not, _&&_, and-true, and-false, false≢true}
 use mathlib.Core.List.{List}
 use mathlib.Core.Path.{_≡_, refl, sym, ap, _∙_}
 use lib.Dec.{eqb}
@@ -27,10 +27,10 @@ use Rattle.records.specs.Node.{nodeId, isOwn}
 use Rattle.records.specs.Offsets.{entry-room}
 use Rattle.records.specs.declared.Form.{Form}
 use Rattle.reading.specs.Whole.{readNetwork, readSheet}
-use Rattle.marking.specs.Tables.{Checked, ownMeets, entered, otherNumber, rowNumber, Numbered, NotedAt, Noted}
+use Rattle.marking.specs.Tables.{CheckedNetwork, CheckedSheet, ownMeets, entered, otherNumber, rowNumber, Numbered, NotedAt, Noted}
 use Rattle.marking.proofs.Said.{meets-own, meets-input, entry-le, note-there, note-none, number-there}
 
-module _ (f : Form) (network sheet rows : List ℕ) (c : Checked f network sheet rows) (i : ℕ) (l : i < nodeCount network) where
+module _ (f : Form) (network sheet : List ℕ) (c : CheckedNetwork f network) (i : ℕ) (l : i < nodeCount network) where
   pub row-small : i < 1024
   row-small = let r = c .room .few in let u = c .room .usable .few in omega arith
 
@@ -85,11 +85,11 @@ module _ (f : Form) (network sheet rows : List ℕ) (c : Checked f network sheet
       pub own-low : Fits w16 many → entry ≤ 65535
       own-low a = let h = own-there in omega arith
 
-      pub own-sum : (at : ℕ) → at ≡ entryOffset f sheetLead entry → length sheet < 2 ^ 64 → Fits w64 (at + 2)
-      own-sum at a b = let h = entry-room f sheetLead sheet (c .sheet-room) entry own-there in omega arith
+      pub own-room : (at : ℕ) → CheckedSheet f sheet → at ≡ entryOffset f sheetLead entry → at + 2 < length sheet
+      own-room at s a = let h = entry-room f sheetLead sheet (s .room) entry own-there in let u = s .room .usable .wide in omega arith
 
-      pub own-room : (at : ℕ) → at ≡ entryOffset f sheetLead entry → at + 2 < length sheet
-      own-room at a = let h = entry-room f sheetLead sheet (c .sheet-room) entry own-there in let u = c .room .usable .wide in omega arith
+      pub own-sum : (at : ℕ) → CheckedSheet f sheet → at ≡ entryOffset f sheetLead entry → length sheet < 2 ^ 64 → Fits w64 (at + 2)
+      own-sum at s a b = let h = own-room at s a in omega arith
 
       pub own-found : true ≡ entered f network sheet i
       unfolding entered
@@ -118,7 +118,7 @@ never-notes f network sheet n entries e = absurd (false≢true e)
 pub never-numbered : (f : Form) (network sheet : List ℕ) (n : ℕ) (numbers : List ℕ) → false ≡ true → Numbered f network sheet n numbers
 never-numbered f network sheet n numbers e = absurd (false≢true e)
 
-pub ruleset entering = (row-small, input-found, input-notes, input-numbered, own-none, own-fits, own-low, own-sum, own-room, own-found, own-notes, own-numbered, never-notes, never-numbered)
+pub ruleset entering = (row-small, input-found, input-notes, input-numbered, own-none, own-fits, own-low, own-room, own-sum, own-found, own-notes, own-numbered, never-notes, never-numbered)
 
 -- what the loop over the rows knows
 pub record Entering (f : Form) (network sheet : List ℕ) (n i : ℕ) (entries numbers : List ℕ) : Type 0 where
@@ -164,25 +164,24 @@ entering-less-numbered f network sheet n i numbers l e = absurd (omega arith)
 pub ruleset entries = (entering-start, entering-end, entering-notes, entering-numbered, entering-bad, entering-next, entering-less-notes, entering-less-numbered)
 
 -- whether a row is an own one with number k
-module _ (f : Form) (network sheet numbers : List ℕ) (k i : ℕ) (m : Numbered f network sheet (nodeCount network) numbers) (l : i < nodeCount network) where
-  pub other-number : (getD numbers i 0 ≡ k → ⊥) → true ≡ otherNumber f network sheet k i
+module _ (f : Form) (network numbers : List ℕ) (k i : ℕ) where
+  pub other-number : (getD numbers i 0 ≡ k → ⊥) → true ≡ otherNumber f network numbers k i
+  unfolding otherNumber
+  other-number d = rw (ne-eqb (getD numbers i 0) k d, and-false (isOwn f network i))
+
+  pub other-own : (t : Bool) → getD numbers i 0 ≡ k → t ≡ isOwn f network i → not t ≡ otherNumber f network numbers k i
+  unfolding otherNumber
+  other-own t q e = rw (eq-eqb (getD numbers i 0) k q, and-true (isOwn f network i), e)
+
+  -- what the sheet says of it
+  pub other-is : (sheet : List ℕ) → Numbered f network sheet (nodeCount network) numbers → i < nodeCount network
+      → otherNumber f network numbers k i ≡ not (ownMeets f network (numbered (readNetwork f network) (readSheet f sheet) k) i)
   unfolding otherNumber rowNumber
-  other-number d = go (isOwn f network i) refl (m .row i l)
+  other-is sheet m l = go (isOwn f network i) refl (m .row i l)
     where
       go : (t : Bool) → isOwn f network i ≡ t → getD numbers i 0 ≡ cond t (number (readSheet f sheet) (nodeId f network i)) 64
-          → true ≡ not (ownMeets f network (numbered (readNetwork f network) (readSheet f sheet) k) i)
-      go true q e = rw (meets-own f network i q (numbered (readNetwork f network) (readSheet f sheet) k), ne-eqb (number (readSheet f sheet) (nodeId f network i)) k (λ z. d (e ∙ z)))
+          → not (t && eqb (getD numbers i 0) k) ≡ not (ownMeets f network (numbered (readNetwork f network) (readSheet f sheet) k) i)
+      go true q e = rw (meets-own f network i q (numbered (readNetwork f network) (readSheet f sheet) k), e)
       go false q e = rw (meets-input f network i q (numbered (readNetwork f network) (readSheet f sheet) k))
-
-  pub other-own : (t : Bool) → getD numbers i 0 ≡ k → t ≡ isOwn f network i → not t ≡ otherNumber f network sheet k i
-  unfolding otherNumber rowNumber
-  other-own t q e = go t (sym e) (m .row i l)
-    where
-      go : (t : Bool) → isOwn f network i ≡ t → getD numbers i 0 ≡ cond (isOwn f network i) (number (readSheet f sheet) (nodeId f network i)) 64
-          → not t ≡ not (ownMeets f network (numbered (readNetwork f network) (readSheet f sheet) k) i)
-      go true p d =
-          let z : getD numbers i 0 ≡ number (readSheet f sheet) (nodeId f network i) = rw p at d in
-          rw (meets-own f network i p (numbered (readNetwork f network) (readSheet f sheet) k), eq-eqb (number (readSheet f sheet) (nodeId f network i)) k (sym z ∙ q))
-      go false p d = rw (meets-input f network i p (numbered (readNetwork f network) (readSheet f sheet) k))
 
 pub ruleset asking = (other-number, other-own)

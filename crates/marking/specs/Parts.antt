@@ -35,6 +35,7 @@ assumedOf v note = input (record { id = boxId v; assumed = note })
 unfoldable pub noteOffset : Form → List ℕ → ℕ → ℕ
 noteOffset f entries i = entryOffset f sheetLead (getD entries i 0) + 3
 
+-- the note for row i
 unfoldable pub noteIn : Form → List ℕ → List ℕ → ℕ → Route
 noteIn f sheet entries i = routeAt (f .route) sheet (noteOffset f entries i)
 
@@ -43,6 +44,7 @@ module _ (f : Form) (network sheet : List ℕ) where
   unfoldable pub pieceIn : ℕ → ℕ → Option (Box Route Demand)
   pieceIn k i = piece (readNetwork f network) (readSheet f sheet) (only k) (boxIn f network i)
 
+  -- anything is kept of it
   unfoldable pub keeps : ℕ → ℕ → Bool
   keeps k i = holds (λ (v : Box Route Demand). true) (pieceIn k i)
 
@@ -54,10 +56,12 @@ module _ (f : Form) (network sheet : List ℕ) where
       (cond (eqb part 2) (some (withPromise (boxIn f network i) (noteIn f sheet entries i)))
       (some (assumedOf (boxIn f network i) (noteIn f sheet entries i)))))
 
+  -- the part of row i in fragment k; a note is kept of own boxes only
   pub record Part (entries : List ℕ) (k i part : ℕ) : Type 0 where
     pub is : pieceOf entries i part ≡ pieceIn k i
     pub ours : 2 ≤ part → isOwn f network i ≡ true
 
+  -- the table holds the parts of the first n rows
   pub record Parted (entries : List ℕ) (k n : ℕ) (parts : List ℕ) : Type 0 where
     pub long : length parts ≡ 1024
     pub row : (i : ℕ) → i < n → Part entries k i (getD parts i 0)

@@ -6,10 +6,11 @@ ghost use lib.ListN.{length, set};
 ghost use Rattle.lists.specs.Gather.{count};
 ghost use Rattle.numbers.specs.BigEndian.{u16At};
 ghost use Rattle.records.specs.Edge.{boxed};
-ghost use Rattle.records.specs.Layout.{Room, nodeCount, edgeCount, edgeOffset};
+ghost use Rattle.records.specs.Layout.{Room, edgeCount, edgeOffset};
 ghost use Rattle.records.specs.Node.{rowOf};
 ghost use Rattle.records.specs.Rows.{Filled};
-ghost use Rattle.marking.specs.Tables.{Checked, Numbered, crosses, reaches, Marked, markedBy};
+ghost use Rattle.marking.specs.Marks.{crosses, reaches, Marked, markedBy};
+ghost use Rattle.marking.specs.Tables.{CheckedNetwork};
 use numbers::u16_at;
 use records::Form;
 use records::edge_offset;
@@ -39,7 +40,6 @@ fn mark_if(table: &mut [u8; 1024], row: usize, test: bool)
 fn mark_wire(
     form: Form,
     network: &[u8],
-    sheet: &[u8],
     rows: &[u16; 65536],
     numbers: &[u8; 1024],
     k: u8,
@@ -48,10 +48,10 @@ fn mark_wire(
     leaves: &mut [u8; 1024],
     feeds: &mut [u8; 1024],
 ) -> bool
-    requires { ⌜ Checked form (now network) (now sheet) (now rows) × Numbered form (now network) (now sheet) (nodeCount (now network)) (now numbers) × (j < edgeCount (now network)) × (at ≡ edgeOffset form (now network) j) ⌝ }
-    ensures kept { λ r. ⌜ r ≡ reaches form (now (network .entry)) (now (sheet .entry)) k j ⌝ }
-    ensures left { λ _. ⌜ now (leaves .exit) ≡ markedBy form (now (network .entry)) (crosses form (now (network .entry)) (now (sheet .entry))) j (now (leaves .entry)) ⌝ }
-    ensures fed { λ _. ⌜ now (feeds .exit) ≡ markedBy form (now (network .entry)) (reaches form (now (network .entry)) (now (sheet .entry)) k) j (now (feeds .entry)) ⌝ }
+    requires { ⌜ CheckedNetwork form (now network) × Filled form (now network) (now rows) × (j < edgeCount (now network)) × (at ≡ edgeOffset form (now network) j) ⌝ }
+    ensures kept { λ r. ⌜ r ≡ reaches form (now (network .entry)) (now (numbers .entry)) k j ⌝ }
+    ensures left { λ _. ⌜ now (leaves .exit) ≡ markedBy form (now (network .entry)) (crosses form (now (network .entry)) (now (numbers .entry))) j (now (leaves .entry)) ⌝ }
+    ensures fed { λ _. ⌜ now (feeds .exit) ≡ markedBy form (now (network .entry)) (reaches form (now (network .entry)) (now (numbers .entry)) k) j (now (feeds .entry)) ⌝ }
 {
     let to = numbers[row_at(form, network, rows, at)];
     let row = row_at(form, network, rows, at + 2);
@@ -72,7 +72,6 @@ pub fn one_if(test: bool) -> usize
 pub fn mark_wires(
     form: Form,
     network: &[u8],
-    sheet: &[u8],
     rows: &[u16; 65536],
     numbers: &[u8; 1024],
     k: u8,
@@ -80,17 +79,17 @@ pub fn mark_wires(
     leaves: &mut [u8; 1024],
     feeds: &mut [u8; 1024],
 ) -> usize
-    requires { ⌜ Checked form (now network) (now sheet) (now rows) × Numbered form (now network) (now sheet) (nodeCount (now network)) (now numbers) × (n ≡ edgeCount (now network)) ⌝ }
-    requires { ⌜ (length (now leaves) ≡ 1024) × (length (now feeds) ≡ 1024) × Marked form (now network) (crosses form (now network) (now sheet)) 0 (now leaves) × Marked form (now network) (reaches form (now network) (now sheet) k) 0 (now feeds) ⌝ }
-    ensures kept { λ r. ⌜ r ≡ count (reaches form (now (network .entry)) (now (sheet .entry)) k) n ⌝ }
-    ensures left { λ _. ⌜ Marked form (now (network .entry)) (crosses form (now (network .entry)) (now (sheet .entry))) n (now (leaves .exit)) ⌝ }
-    ensures fed { λ _. ⌜ Marked form (now (network .entry)) (reaches form (now (network .entry)) (now (sheet .entry)) k) n (now (feeds .exit)) ⌝ }
+    requires { ⌜ CheckedNetwork form (now network) × Filled form (now network) (now rows) × (n ≡ edgeCount (now network)) ⌝ }
+    requires { ⌜ (length (now leaves) ≡ 1024) × (length (now feeds) ≡ 1024) × Marked form (now network) (crosses form (now network) (now numbers)) 0 (now leaves) × Marked form (now network) (reaches form (now network) (now numbers) k) 0 (now feeds) ⌝ }
+    ensures kept { λ r. ⌜ r ≡ count (reaches form (now (network .entry)) (now (numbers .entry)) k) n ⌝ }
+    ensures left { λ _. ⌜ Marked form (now (network .entry)) (crosses form (now (network .entry)) (now (numbers .entry))) n (now (leaves .exit)) ⌝ }
+    ensures fed { λ _. ⌜ Marked form (now (network .entry)) (reaches form (now (network .entry)) (now (numbers .entry)) k) n (now (feeds .exit)) ⌝ }
 {
     let mut kept = 0;
     let mut j = 0;
     let mut at = edge_offset(form, network, 0);
     while j < n {
-        let one = one_if(mark_wire(form, network, sheet, rows, numbers, k, j, at, leaves, feeds));
+        let one = one_if(mark_wire(form, network, rows, numbers, k, j, at, leaves, feeds));
         kept += one;
         at += 5;
         j += 1;

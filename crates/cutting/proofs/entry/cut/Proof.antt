@@ -1,4 +1,6 @@
-use Rattle.cutting.proofs.CheckLaws.{records-checked, checking}
+-- One law for each refusal of the two records; where neither is refused, the answer is that of what they say (records-cut).
+use Rattle.cutting.proofs.CheckLaws.{checking, network-checked, sheet-checked}
+use Rattle.records.specs.RowLaws.{rows-fine}
 use borrow.Author.Needs.{needs}
 use Rattle.cutting.proofs.entry.cut.Statement.{statement}
 use Rattle.cutting.proofs.entry.cut.Tie as tie
@@ -25,7 +27,14 @@ enum-told-2 : tie.Need-enum-told-2
 enum-told-2 c = search needs
 
 cut-checked-requires : tie.Need-cut-checked-requires
-cut-checked-requires c κs = let n = c .before .before .before .before .before .before .before .check-network-rows in let s = c .before .before .before .before .check-sheet in records-checked _ _ _ _ (n .result) (s .result) (n .ensures .0) (search needs) (s .ensures) (search needs) (n .ensures .1) (λ i. c .before .before .before .before .before .before .before .before .before .before .before .shared-slice-known .given i .fits) (λ i. c .before .before .before .before .before .before .before .before .before .before .shared-slice-known2 .given i .fits)
+cut-checked-requires c κs =
+    let s = c .before .before .before .before .check-sheet in
+    let n = c .before .before .before .before .before .before .before .check-network-rows in
+    let slices = c .before .before .before .before .before .before .before .before .before .before in (
+      network-checked _ (n .result) (n .ensures .0) (search needs) (λ i. slices .before .shared-slice-known .given i .fits),
+      sheet-checked _ (s .result) (s .ensures) (search needs) (λ i. slices .shared-slice-known2 .given i .fits),
+      search rows-fine,
+    )
 
 returns-2 : tie.Need-returns-2
 returns-2 c = (search checking, search checking)

@@ -1,4 +1,6 @@
-use Rattle.cutting.proofs.CheckLaws.{tables-start, tables-whole}
+-- The parts are sorted into a table of zeros. The record's length decides between 20 and what was laid (rooms).
+use Rattle.cutting.proofs.AnswerLaws.{rooms}
+use Rattle.cutting.proofs.CheckLaws.{tables-whole}
 use borrow.Author.Needs.{needs}
 use Rattle.cutting.proofs.entry.cut_agreed.Statement.{statement}
 use Rattle.cutting.proofs.entry.cut_agreed.Tie as tie
@@ -10,18 +12,32 @@ cast-n : tie.Need-cast-n
 cast-n c = search needs
 
 sort-rows-requires : tie.Need-sort-rows-requires
-sort-rows-requires c κs = ((search needs, search needs, search needs, search needs, search (needs, tables-start)), (search needs, search needs))
+sort-rows-requires c κs = search needs
 
-place-requires : tie.Need-place-requires
-place-requires c κs = (search tables-whole, search tables-whole, search needs)
+lay-requires : tie.Need-lay-requires
+lay-requires c κs = ((search tables-whole, search needs), (search tables-whole, search needs))
 
 same-length : tie.Need-same-length
 same-length c = search needs
 
 returns : tie.Need-returns
-returns c = search needs
+returns c = (search rooms, search needs)
+
+same-length-2 : tie.Need-same-length-2
+same-length-2 c = search needs
+
+returns-2 : tie.Need-returns-2
+returns-2 c = (search rooms, search needs)
 
 pub cut-agreed-spec : {M : Type 1} → statement M
 cut-agreed-spec =
     tie.close
-    (tie.spec u16-at-requires cast-n sort-rows-requires place-requires same-length returns)
+    (tie.spec
+    u16-at-requires
+    cast-n
+    sort-rows-requires
+    lay-requires
+    same-length
+    returns
+    same-length-2
+    returns-2)

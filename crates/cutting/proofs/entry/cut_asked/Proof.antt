@@ -1,3 +1,4 @@
+-- The marks of all edges say which boxes cut wires leave (leaving). The first clash is 19; where there is none, the answer is the fragment's.
 use Rattle.cutting.proofs.AnswerLaws.{cutting-19}
 use Rattle.cutting.proofs.CheckLaws.{tables-start, tables-whole}
 use borrow.Author.Needs.{needs}
@@ -20,7 +21,7 @@ mark-wires-requires : tie.Need-mark-wires-requires
 mark-wires-requires c κs = ((search needs, search needs, search needs), (search tables-start, search tables-start, search tables-start, search tables-start))
 
 first-clash-requires : tie.Need-first-clash-requires
-first-clash-requires c κs = (search needs, search needs, search needs, search tables-whole)
+first-clash-requires c κs = (search needs, search needs, search needs, search needs, search tables-whole)
 
 node-id-requires : tie.Need-node-id-requires
 node-id-requires c κs = search needs
@@ -29,13 +30,13 @@ returns : tie.Need-returns
 returns c = (search cutting-19, search cutting-19)
 
 cut-agreed-requires : tie.Need-cut-agreed-requires
-cut-agreed-requires c κs = ((search needs, search needs, search needs, search tables-whole), (search tables-whole, search tables-whole))
+cut-agreed-requires c κs = ((search needs, search needs, search needs, search needs, search needs, search tables-whole), (search tables-whole, search tables-whole))
 
 same-length : tie.Need-same-length
 same-length c = search needs
 
 returns-2 : tie.Need-returns-2
-returns-2 c = let p = c .before .before .before .before .before .before .before .before .before .before .before .before .before .before .before .before .before .pre in (search cutting-19, search cutting-19)
+returns-2 c = (search cutting-19, search cutting-19)
 
 pub cut-asked-spec : {M : Type 1} → statement M
 cut-asked-spec =

@@ -1,4 +1,6 @@
+-- The first row without an entry is 17 (answer-17); where there is none, both tables are whole.
 use Rattle.cutting.proofs.AnswerLaws.{cutting-17}
+use Rattle.cutting.proofs.CheckLaws.{tables-start}
 use borrow.Author.Needs.{needs}
 use Rattle.cutting.proofs.entry.cut_checked.Statement.{statement}
 use Rattle.cutting.proofs.entry.cut_checked.Tie as tie
@@ -10,7 +12,7 @@ cast-n : tie.Need-cast-n
 cast-n c = search needs
 
 enter-requires : tie.Need-enter-requires
-enter-requires c κs = search needs
+enter-requires c κs = (search needs, search needs, search needs, search tables-start, search tables-start)
 
 node-id-requires : tie.Need-node-id-requires
 node-id-requires c κs = search needs
@@ -19,7 +21,7 @@ returns : tie.Need-returns
 returns c = (search cutting-17, search cutting-17)
 
 cut-entered-requires : tie.Need-cut-entered-requires
-cut-entered-requires c κs = (search needs, search cutting-17, search cutting-17, search cutting-17)
+cut-entered-requires c κs = (search needs, search needs, search needs, search cutting-17, search cutting-17, search cutting-17)
 
 same-length : tie.Need-same-length
 same-length c = search needs

@@ -1,3 +1,4 @@
+-- No row with the number is 18 (answer-18); one is what the rest asks for.
 use Rattle.cutting.proofs.AnswerLaws.{cutting-18}
 use borrow.Author.Needs.{needs}
 use Rattle.cutting.proofs.entry.cut_entered.Statement.{statement}
@@ -16,7 +17,7 @@ returns : tie.Need-returns
 returns c = (search cutting-18, search cutting-18)
 
 cut-asked-requires : tie.Need-cut-asked-requires
-cut-asked-requires c κs = (search needs, search needs, search needs, search needs, search cutting-18)
+cut-asked-requires c κs = (search needs, search needs, search needs, search needs, search needs, search needs, search cutting-18)
 
 same-length : tie.Need-same-length
 same-length c = search needs

@@ -1,3 +1,4 @@
+-- As lay_nodes, with the offset of the edge at hand.
 use Rattle.laying.proofs.LayLaws.{edge-fits, laying, offsets}
 use Rattle.lists.specs.Gather.{Laying}
 use Rattle.records.specs.Layout.{edgeOffset}
@@ -9,10 +10,10 @@ use Rattle.laying.proofs.parts.lay_edges.Statement.{statement}
 use Rattle.laying.proofs.parts.lay_edges.Tie as tie
 
 abbrev Inv-loop : tie.InvT-loop
-Inv-loop form network sheet rows entries numbers parts k n out₀ o₀ j₀ at₀ out o j at = (at ≡ edgeOffset form network j) × Laying (edgeBytes form network sheet k) n out₀ out j o
+Inv-loop form network rows numbers k n out₀ o₀ j₀ at₀ out o j at = (at ≡ edgeOffset form network j) × Laying (edgeBytes form network numbers k) n out₀ out j o
 
 abbrev μ-loop : tie.MeasureT-loop
-μ-loop form network sheet rows entries numbers parts k n out₀ o₀ j₀ at₀ out o j at = n - j
+μ-loop form network rows numbers k n out₀ o₀ j₀ at₀ out o j at = n - j
 
 edge-offset-requires : tie.Need-edge-offset-requires Inv-loop μ-loop
 edge-offset-requires c κs = search (needs, laying, offsets)
@@ -30,7 +31,7 @@ part-put-edge-end : tie.Need-part-put-edge-end Inv-loop μ-loop
 part-put-edge-end c = search (needs, laying, offsets)
 
 put-edge-requires : tie.Need-put-edge-requires Inv-loop μ-loop
-put-edge-requires c κs = (search needs, search needs, search needs, search edge-fits)
+put-edge-requires c κs = (search needs, search needs, search needs, search needs, search edge-fits)
 
 add-o : tie.Need-add-o Inv-loop μ-loop
 add-o c = search (needs, laying, offsets)

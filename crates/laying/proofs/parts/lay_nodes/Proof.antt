@@ -1,3 +1,4 @@
+-- Before the i-th turn the bytes of the rows before it lie over the start of the buffer (Laying), and the next row fits in what remains.
 use Rattle.laying.proofs.LayLaws.{node-fits, laying}
 use Rattle.lists.specs.Gather.{Laying}
 use Rattle.laying.specs.Pieces.{nodeBytes}
@@ -7,10 +8,10 @@ use Rattle.laying.proofs.parts.lay_nodes.Statement.{statement}
 use Rattle.laying.proofs.parts.lay_nodes.Tie as tie
 
 abbrev Inv-loop : tie.InvT-loop
-Inv-loop form network sheet rows entries numbers parts k n out₀ o₀ i₀ out o i = Laying (nodeBytes form network sheet k) n out₀ out i o
+Inv-loop form network sheet entries parts n out₀ o₀ i₀ out o i = Laying (nodeBytes form network sheet entries parts) n out₀ out i o
 
 abbrev μ-loop : tie.MeasureT-loop
-μ-loop form network sheet rows entries numbers parts k n out₀ o₀ i₀ out o i = n - i
+μ-loop form network sheet entries parts n out₀ o₀ i₀ out o i = n - i
 
 loop-holds : tie.Need-loop-holds Inv-loop μ-loop
 loop-holds c = search (needs, laying)

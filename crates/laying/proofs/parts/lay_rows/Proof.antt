@@ -1,3 +1,4 @@
+-- The nodes lie over the start, and the edges in what remains, so both over the whole (rows-laid).
 use Rattle.laying.proofs.LayLaws.{rowing}
 use borrow.Author.Needs.{needs}
 use Rattle.laying.proofs.parts.lay_rows.Statement.{statement}
@@ -28,7 +29,7 @@ part-lay-edges-end : tie.Need-part-lay-edges-end
 part-lay-edges-end c = search (needs, rowing)
 
 lay-edges-requires : tie.Need-lay-edges-requires
-lay-edges-requires c κs = (search needs, search needs, search rowing)
+lay-edges-requires c κs = (search needs, search needs, search needs, search rowing)
 
 same-length : tie.Need-same-length
 same-length c = search (needs, rowing)

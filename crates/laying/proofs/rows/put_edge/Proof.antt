@@ -1,3 +1,4 @@
+-- The number of the row that the edge leads to decides whether its five bytes are laid.
 use Rattle.laying.proofs.PutLaws.{wiring}
 use borrow.Author.Needs.{needs}
 use Rattle.laying.proofs.rows.put_edge.Statement.{statement}

@@ -1,3 +1,4 @@
+-- One law for each part: nothing, the node as it stands, its note promised, its note assumed.
 use Rattle.laying.proofs.PutLaws.{putting}
 use borrow.Author.Needs.{needs}
 use Rattle.laying.proofs.rows.put_node.Statement.{statement}

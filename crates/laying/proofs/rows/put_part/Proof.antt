@@ -1,3 +1,4 @@
+-- A copy into the rest of the buffer is a store of the part at the offset (part-stored).
 use Rattle.laying.proofs.StoreLaws.{part-stored}
 use borrow.Author.Needs.{needs}
 use Rattle.laying.proofs.rows.put_part.Statement.{statement}

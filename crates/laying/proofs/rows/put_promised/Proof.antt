@@ -1,3 +1,4 @@
+-- Four runs, each stored where the one before ends, are the row (promised-stored).
 use Rattle.laying.proofs.StoreLaws.{storing}
 use borrow.Author.Needs.{needs}
 use Rattle.laying.proofs.rows.put_promised.Statement.{statement}

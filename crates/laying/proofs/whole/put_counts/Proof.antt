@@ -1,3 +1,4 @@
+-- Three stores, one behind another, are the five bytes.
 use Rattle.laying.proofs.StoreLaws.{counts-stored}
 use borrow.Author.Needs.{needs}
 use Rattle.laying.proofs.whole.put_counts.Statement.{statement}

@@ -1,3 +1,4 @@
+-- The length, the version and the counts, one behind another, are the ten bytes.
 use Rattle.laying.proofs.StoreLaws.{head-stored}
 use borrow.Author.Needs.{needs}
 use Rattle.laying.proofs.whole.put_head.Statement.{statement}

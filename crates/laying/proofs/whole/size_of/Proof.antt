@@ -1,3 +1,4 @@
+-- Two strides, the nodes behind the policies and the edges behind the nodes.
 use Rattle.laying.proofs.LayLaws.{sized}
 use borrow.Author.Needs.{needs}
 use Rattle.laying.proofs.whole.size_of.Statement.{statement}

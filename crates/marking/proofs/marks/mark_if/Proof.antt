@@ -1,3 +1,4 @@
+-- The two ways of a mark.
 use Rattle.marking.proofs.MarkLaws.{mark-yes, mark-no}
 use borrow.Author.Needs.{needs}
 use Rattle.marking.proofs.marks.mark_if.Statement.{statement}

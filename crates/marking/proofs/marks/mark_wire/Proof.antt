@@ -1,3 +1,4 @@
+-- Both ends of a sound edge have rows, whose numbers say what is marked (edge-left, edge-fed).
 use Rattle.marking.proofs.MarkLaws.{marking}
 use borrow.Author.Needs.{needs}
 use Rattle.marking.proofs.marks.mark_wire.Statement.{statement}

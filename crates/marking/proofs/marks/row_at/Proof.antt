@@ -1,3 +1,4 @@
+-- The table from ids to rows holds the row, plus 1 (row-mark).
 use Rattle.marking.proofs.MarkLaws.{rows-read}
 use borrow.Author.Needs.{needs}
 use Rattle.marking.proofs.marks.row_at.Statement.{statement}

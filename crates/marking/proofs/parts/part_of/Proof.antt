@@ -1,3 +1,4 @@
+-- One law for each way that a row is kept or is not, in the order of the tests.
 use Rattle.marking.proofs.PartLaws.{parting}
 use borrow.Author.Needs.{needs}
 use Rattle.marking.proofs.parts.part_of.Statement.{statement}

@@ -1,3 +1,4 @@
+-- Before the i-th turn the parts of the rows before it stand in the table, and those that are kept are counted (Sorting).
 use Rattle.marking.proofs.PartLaws.{Sorting, partings}
 use Prim.Native.Nat.{_-_}
 use borrow.Author.Needs.{needs}
@@ -5,10 +6,10 @@ use Rattle.marking.proofs.parts.sort_rows.Statement.{statement}
 use Rattle.marking.proofs.parts.sort_rows.Tie as tie
 
 abbrev Inv-loop : tie.InvT-loop
-Inv-loop form network sheet rows entries numbers leaves feeds k n parts₀ kept₀ i₀ parts kept i = Sorting form network sheet entries k n i kept parts
+Inv-loop form network sheet entries numbers leaves feeds k n parts₀ kept₀ i₀ parts kept i = Sorting form network sheet entries k n i kept parts
 
 abbrev μ-loop : tie.MeasureT-loop
-μ-loop form network sheet rows entries numbers leaves feeds k n parts₀ kept₀ i₀ parts kept i = n - i
+μ-loop form network sheet entries numbers leaves feeds k n parts₀ kept₀ i₀ parts kept i = n - i
 
 loop-holds : tie.Need-loop-holds Inv-loop μ-loop
 loop-holds c = search (needs, partings)

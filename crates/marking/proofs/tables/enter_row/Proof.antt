@@ -1,3 +1,4 @@
+-- One law for each way: an input, an own node without an entry, an own node with one.
 use Rattle.marking.proofs.TableLaws.{entering}
 use borrow.Author.Needs.{needs}
 use Rattle.marking.proofs.tables.enter_row.Statement.{statement}
@@ -15,8 +16,8 @@ returns c = (search (needs, entering), (search (needs, entering), search (needs,
 node-id-requires : tie.Need-node-id-requires
 node-id-requires c κs = search (needs, entering)
 
-entry-of-requires : tie.Need-entry-of-requires
-entry-of-requires c κs = search (needs, entering)
+entry-near-requires : tie.Need-entry-near-requires
+entry-near-requires c κs = search (needs, entering)
 
 u16-at-requires : tie.Need-u16-at-requires
 u16-at-requires c κs = search (needs, entering)
@@ -59,7 +60,7 @@ enter-row-spec =
     element-write-numbers
     returns
     node-id-requires
-    entry-of-requires
+    entry-near-requires
     u16-at-requires
     cast-if2
     returns-2

@@ -1,3 +1,4 @@
+-- Before the i-th turn no row before it is an own node with the number (Seek).
 use Rattle.lists.specs.Walk.{Seek, seeking}
 use Prim.Native.Nat.{_-_}
 use Rattle.marking.specs.Tables.{otherNumber}
@@ -6,10 +7,10 @@ use Rattle.marking.proofs.tables.first_of.Statement.{statement}
 use Rattle.marking.proofs.tables.first_of.Tie as tie
 
 abbrev Inv-loop : tie.InvT-loop
-Inv-loop form network sheet rows numbers k n i₀ i = Seek (otherNumber form network sheet k) n i
+Inv-loop form network numbers k n i₀ i = Seek (otherNumber form network numbers k) n i
 
 abbrev μ-loop : tie.MeasureT-loop
-μ-loop form network sheet rows numbers k n i₀ i = n - i
+μ-loop form network numbers k n i₀ i = n - i
 
 loop-holds : tie.Need-loop-holds Inv-loop μ-loop
 loop-holds c = search (needs, seeking)

@@ -1,3 +1,4 @@
+-- The number decides, and where it is k the kind does.
 use Rattle.marking.proofs.TableLaws.{asking}
 use borrow.Author.Needs.{needs}
 use Rattle.marking.proofs.tables.is_other.Statement.{statement}

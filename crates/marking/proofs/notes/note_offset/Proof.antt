@@ -1,7 +1,8 @@
+-- The note stands behind id and number of the entry that the table has for the row.
 use Rattle.marking.proofs.RowLaws.{noting}
 use borrow.Author.Needs.{needs}
-use Rattle.marking.proofs.parts.note_offset.Statement.{statement}
-use Rattle.marking.proofs.parts.note_offset.Tie as tie
+use Rattle.marking.proofs.notes.note_offset.Statement.{statement}
+use Rattle.marking.proofs.notes.note_offset.Tie as tie
 
 mul-wide16 : tie.Need-mul-wide16
 mul-wide16 c = search (needs, noting)

@@ -1,7 +1,8 @@
+-- One law for each way: an input, no cut wire, no promise, and the two routes compared.
 use Rattle.marking.proofs.ClashLaws.{clashing}
 use borrow.Author.Needs.{needs}
-use Rattle.marking.proofs.parts.keeps_promise.Statement.{statement}
-use Rattle.marking.proofs.parts.keeps_promise.Tie as tie
+use Rattle.marking.proofs.notes.keeps_promise.Statement.{statement}
+use Rattle.marking.proofs.notes.keeps_promise.Tie as tie
 
 is-own-requires : tie.Need-is-own-requires
 is-own-requires c κs = search (needs, clashing)

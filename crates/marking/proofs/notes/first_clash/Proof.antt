@@ -1,15 +1,16 @@
+-- Before the i-th turn no row before it breaks a promise (Seek).
 use Rattle.lists.specs.Walk.{Seek, seeking}
 use Prim.Native.Nat.{_-_}
 use Rattle.marking.specs.Tables.{unclashed}
 use borrow.Author.Needs.{needs}
-use Rattle.marking.proofs.parts.first_clash.Statement.{statement}
-use Rattle.marking.proofs.parts.first_clash.Tie as tie
+use Rattle.marking.proofs.notes.first_clash.Statement.{statement}
+use Rattle.marking.proofs.notes.first_clash.Tie as tie
 
 abbrev Inv-loop : tie.InvT-loop
-Inv-loop form network sheet rows entries leaves n i₀ i = Seek (unclashed form network sheet) n i
+Inv-loop form network sheet entries leaves n i₀ i = Seek (unclashed form network sheet) n i
 
 abbrev μ-loop : tie.MeasureT-loop
-μ-loop form network sheet rows entries leaves n i₀ i = n - i
+μ-loop form network sheet entries leaves n i₀ i = n - i
 
 loop-holds : tie.Need-loop-holds Inv-loop μ-loop
 loop-holds c = search (needs, seeking)
