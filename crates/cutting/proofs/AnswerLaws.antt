@@ -34,7 +34,7 @@ use Rattle.reading.proofs.Said.{box-id-at}
 use Rattle.cutting.specs.Cutting.{cutSaid, roomFor, recordAnswer, laidAnswer}
 use Rattle.laying.specs.Pieces.{fragmentIn}
 use Rattle.cutting.specs.Stages.{Entered, Asked}
-use Rattle.marking.specs.Tables.{boxIn, ownMeets, entered, otherNumber, unclashed, Noted, Numbered}
+use Rattle.marking.specs.Tables.{boxIn, ownMeets, entered, otherNumber, unclashed, Noted, Numbered, CheckedNetwork, CheckedSheet, RowTables}
 use Rattle.marking.proofs.TableLaws.{other-is}
 
 -- the length of a record against the room for it
@@ -118,11 +118,12 @@ module _ (f : Form) (network sheet : List ℕ) (k : ℕ) where
         none-missing : unentered N (note S) ≡ none
         none-missing = unentered-is ∙ rw (← at-missing, le-ltb missing (nodeCount network) (omega arith))
 
-        pub all-noted : (entries : List ℕ) → (missing ≡ n → Noted f network sheet n entries) → Noted f network sheet (nodeCount network) entries
-        all-noted entries h = let z = first-le (entered f network sheet) n in rw (← e) (h (omega arith))
+        done : missing ≡ n
+        done = let z = first-le (entered f network sheet) n in omega arith
 
-        pub all-numbered : (numbers : List ℕ) → (missing ≡ n → Numbered f network sheet n numbers) → Numbered f network sheet (nodeCount network) numbers
-        all-numbered numbers h = let z = first-le (entered f network sheet) n in rw (← e) (h (omega arith))
+        pub all-rows : (entries numbers : List ℕ) → CheckedNetwork f network → CheckedSheet f sheet → (missing ≡ n → Noted f network sheet n entries)
+            → (missing ≡ n → Numbered f network sheet n numbers) → RowTables f network sheet entries numbers
+        all-rows entries numbers c d h g = record { checked = c; formed = d; noted = rw (← e) (h done); numbered = rw (← e) (g done) }
 
         pub all-entered : Entered f network sheet
         unfolding Entered
@@ -178,7 +179,7 @@ module _ (f : Form) (network sheet : List ℕ) (k : ℕ) where
         pub buffer-cut : (out out′ : List ℕ) → out′ ≡ placed (writeNetwork f (fragmentIn f network sheet k)) out → out′ ≡ laidAnswer f (cutSaid f network sheet k) out
         buffer-cut out out′ p = rw said-cut p
 
-pub ruleset cutting-17 = (answer-17, buffer-17, missing-row, all-noted, all-numbered, all-entered)
+pub ruleset cutting-17 = (answer-17, buffer-17, missing-row, all-rows, all-entered)
 
 pub ruleset cutting-18 = (answer-18, buffer-18, one-asked)
 

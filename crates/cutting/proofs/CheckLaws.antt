@@ -28,7 +28,7 @@ use Rattle.cutting.specs.Cutting.{cutSaid, cutNetwork, recordAnswer, lai
 use Rattle.laying.specs.Pieces.{Tabled}
 use Rattle.marking.specs.Marks.{crosses, reaches, Marked}
 use Rattle.marking.specs.Parts.{keeps, Parted}
-use Rattle.marking.specs.Tables.{CheckedNetwork, CheckedSheet, Noted, Numbered}
+use Rattle.marking.specs.Tables.{CheckedNetwork, CheckedSheet, Noted, Numbered, RowTables}
 use Rattle.marking.proofs.MarkSaid.{leaving, feeding}
 use Rattle.marking.proofs.MarkLaws.{marked-none}
 
@@ -129,8 +129,8 @@ module _ (f : Form) (network sheet : List ℕ) (k n : ℕ) (e : n ≡ nodeCount 
   pub nodes-counted : (kept : ℕ) → kept ≡ count (keeps f network sheet k) n → kept ≡ count (keeps f network sheet k) (nodeCount network)
   nodes-counted kept h = rw (← e) h
 
-  pub tabled : (entries numbers parts : List ℕ) → CheckedNetwork f network → CheckedSheet f sheet → Noted f network sheet (nodeCount network) entries
-      → Numbered f network sheet (nodeCount network) numbers → Parted f network sheet entries k n parts → Tabled f network sheet entries numbers parts k
-  tabled entries numbers parts c d a b h = record { checked = c; formed = d; noted = a; numbered = b; parted = rw (← e) h }
+  pub tabled : (entries numbers parts : List ℕ) → RowTables f network sheet entries numbers → Parted f network sheet entries k n parts
+      → Tabled f network sheet entries numbers parts k
+  tabled entries numbers parts t h = record { tables = t; parted = rw (← e) h }
 
 pub ruleset tables-whole = (leaving, feeding, wires-counted, nodes-counted, tabled)

@@ -3,7 +3,7 @@ ghost use mathlib.Core.Path.{_≡_};
 ghost use lib.ListN.{length};
 ghost use Rattle.lists.specs.Gather.{count};
 ghost use Rattle.lists.specs.Laid.{placed};
-ghost use Rattle.records.specs.Layout.{nodeCount, edgeCount};
+ghost use Rattle.records.specs.Layout.{edgeCount};
 ghost use Rattle.records.specs.Rows.{Filled};
 ghost use Rattle.reading.specs.Whole.{writeNetwork};
 ghost use Rattle.cutting.specs.Answers.{answerOf};
@@ -11,7 +11,7 @@ ghost use Rattle.cutting.specs.Cutting.{cutSaid, roomFor, recordAnswer, 
 ghost use Rattle.cutting.specs.Stages.{Entered, Asked};
 ghost use Rattle.laying.specs.Pieces.{fragmentIn};
 ghost use Rattle.marking.specs.Marks.{reaches, Leaving, Feeding};
-ghost use Rattle.marking.specs.Tables.{CheckedNetwork, CheckedSheet, Noted, Numbered};
+ghost use Rattle.marking.specs.Tables.{CheckedNetwork, CheckedSheet, RowTables};
 use crate::CutAnswer;
 use laying::lay;
 use marking::enter;
@@ -41,7 +41,8 @@ fn cut_agreed(
     edges: usize,
     out: &mut [u8],
 ) -> CutAnswer
-    requires { ⌜ CheckedNetwork form (now network) × CheckedSheet form (now sheet) × Filled form (now network) (now rows) × Noted form (now network) (now sheet) (nodeCount (now network)) (now entries) × Numbered form (now network) (now sheet) (nodeCount (now network)) (now numbers) × (edges ≡ count (reaches form (now network) (now numbers) k) (edgeCount (now network))) ⌝ }
+    requires { ⌜ RowTables form (now network) (now sheet) (now entries) (now numbers) × Filled form (now network) (now rows) ⌝ }
+    requires { ⌜ edges ≡ count (reaches form (now network) (now numbers) k) (edgeCount (now network)) ⌝ }
     requires { ⌜ Leaving form (now network) (now sheet) (now leaves) × Feeding form (now network) (now sheet) k (now feeds) ⌝ }
     ensures answer { λ r. ⌜ answerOf r ≡ roomFor (length (now (out .entry))) (writeNetwork form (fragmentIn form (now (network .entry)) (now (sheet .entry)) k)) ⌝ }
     ensures buffer { λ _. ⌜ now (out .exit) ≡ placed (writeNetwork form (fragmentIn form (now (network .entry)) (now (sheet .entry)) k)) (now (out .entry)) ⌝ }
@@ -91,7 +92,7 @@ fn cut_asked(
     k: u8,
     out: &mut [u8],
 ) -> CutAnswer
-    requires { ⌜ CheckedNetwork form (now network) × CheckedSheet form (now sheet) × Filled form (now network) (now rows) × Noted form (now network) (now sheet) (nodeCount (now network)) (now entries) × Numbered form (now network) (now sheet) (nodeCount (now network)) (now numbers) × Entered form (now network) (now sheet) × Asked form (now network) (now sheet) k ⌝ }
+    requires { ⌜ RowTables form (now network) (now sheet) (now entries) (now numbers) × Filled form (now network) (now rows) × Entered form (now network) (now sheet) × Asked form (now network) (now sheet) k ⌝ }
     ensures answer { λ r. ⌜ answerOf r ≡ recordAnswer form (length (now (out .entry))) (cutSaid form (now (network .entry)) (now (sheet .entry)) k) ⌝ }
     ensures buffer { λ _. ⌜ now (out .exit) ≡ laidAnswer form (cutSaid form (now (network .entry)) (now (sheet .entry)) k) (now (out .entry)) ⌝ }
 {
@@ -130,7 +131,7 @@ fn cut_entered(
     k: u8,
     out: &mut [u8],
 ) -> CutAnswer
-    requires { ⌜ CheckedNetwork form (now network) × CheckedSheet form (now sheet) × Filled form (now network) (now rows) × Noted form (now network) (now sheet) (nodeCount (now network)) (now entries) × Numbered form (now network) (now sheet) (nodeCount (now network)) (now numbers) × Entered form (now network) (now sheet) ⌝ }
+    requires { ⌜ RowTables form (now network) (now sheet) (now entries) (now numbers) × Filled form (now network) (now rows) × Entered form (now network) (now sheet) ⌝ }
     ensures answer { λ r. ⌜ answerOf r ≡ recordAnswer form (length (now (out .entry))) (cutSaid form (now (network .entry)) (now (sheet .entry)) k) ⌝ }
     ensures buffer { λ _. ⌜ now (out .exit) ≡ laidAnswer form (cutSaid form (now (network .entry)) (now (sheet .entry)) k) (now (out .entry)) ⌝ }
 {

@@ -73,7 +73,7 @@ module _ (f : Form) (network sheet entries numbers parts : List ℕ) (k : ℕ) (
   -- an edge by its place, and the wire that it says
   reach : (j : ℕ) → j < edgeCount network → reaches f network numbers k j ≡ only k (number (readSheet f sheet) (wireAt network (at (edgePart f network) 5 j) .to))
   unfolding wireAt edgeOffset edgeTo
-  reach j l = reaches-is f network sheet numbers (t .checked) (t .numbered) k j l
+  reach j l = reaches-is f network sheet numbers (t .tables .checked) (t .tables .numbered) k j l
 
   counted : (j : ℕ) → j < edgeCount network → holds (λ (e : Wire). true) (kept (wireAt network (at (edgePart f network) 5 j))) ≡ reaches f network numbers k j
   counted j l = there (only k (number (readSheet f sheet) (wireAt network (at (edgePart f network) 5 j) .to))) (wireAt network (at (edgePart f network) 5 j)) ∙ sym (reach j l)
@@ -104,11 +104,11 @@ module _ (f : Form) (network sheet entries numbers parts : List ℕ) (k : ℕ) (
 
   policies-fit : 10 + policyCount network * 13 ≤ length network
   unfolding policyOffset at
-  policies-fit = policies-room f network (t .checked .room)
+  policies-fit = policies-room f network (t .tables .checked .room)
 
   policies-laid : laidRows policyBytes (F .policies) ≡ take (nodePart network - 10) (drop 10 network)
   unfolding fragmentIn fragmentOf readNetwork policyOk policyOffset
-  policies-laid = rows-forth policy network 10 (policyCount network) policies-fit (λ i l. (t .checked .bytes, t .checked .sound .policies i l)) ∙ ap (λ (n : ℕ). take n (drop 10 network)) (sym part-size)
+  policies-laid = rows-forth policy network 10 (policyCount network) policies-fit (λ i l. (t .tables .checked .bytes, t .tables .checked .sound .policies i l)) ∙ ap (λ (n : ℕ). take n (drop 10 network)) (sym part-size)
 
   policies-count : length (F .policies) ≡ policyCount network
   unfolding fragmentIn fragmentOf readNetwork
@@ -132,7 +132,7 @@ module _ (f : Form) (network sheet entries numbers parts : List ℕ) (k : ℕ) (
       let b = laidRows (boxBytes w) (F .boxes) in
       let d = laidRows wireBytes (F .wires) in
       let x : length a ≡ length (F .policies) * 13 = length-laidRows 13 policyBytes (policy .size) (F .policies) in
-      let y : length b ≡ length (F .boxes) * (9 + w + w) = length-laidRows (9 + w + w) (boxBytes w) (box w (t .checked .room .usable .wide) .size) (F .boxes) in
+      let y : length b ≡ length (F .boxes) * (9 + w + w) = length-laidRows (9 + w + w) (boxBytes w) (box w (t .tables .checked .room .usable .wide) .size) (F .boxes) in
       let z : length d ≡ length (F .wires) * 5 = length-laidRows 5 wireBytes (wire .size) (F .wires) in
       let x′ : length a ≡ policyCount network * 13 = x ∙ ap (λ (n : ℕ). n * 13) policies-count in
       let y′ : length b ≡ nodes * (9 + w + w) = y ∙ ap (λ (n : ℕ). n * (9 + w + w)) boxes-count in
@@ -147,7 +147,7 @@ module _ (f : Form) (network sheet entries numbers parts : List ℕ) (k : ℕ) (
 
 -- a part with a note is an own node's
 pub node-tables : (f : Form) (network sheet entries numbers parts : List ℕ) (k : ℕ) → Tabled f network sheet entries numbers parts k → NodeTables f network sheet entries parts
-node-tables f network sheet entries numbers parts k t = record { checked = t .checked; formed = t .formed; noted = t .noted; ours = λ i l. t .parted .row i l .ours }
+node-tables f network sheet entries numbers parts k t = record { checked = t .tables .checked; formed = t .tables .formed; noted = t .tables .noted; ours = λ i l. t .parted .row i l .ours }
 
 -- as the code lays it
 module _ (f : Form) (network sheet entries numbers parts : List ℕ) (k : ℕ) (t : Tabled f network sheet entries numbers parts k) (nodes edges : ℕ)
@@ -160,12 +160,12 @@ module _ (f : Form) (network sheet entries numbers parts : List ℕ) (k : ℕ) (
 
   pub nodes-low : nodes ≤ 65535
   nodes-low =
-      let few = t .checked .room .few in
-      let most = t .checked .room .usable .few in
+      let few = t .tables .checked .room .few in
+      let most = t .tables .checked .room .usable .few in
       omega (arith, count-le (keeps f network sheet k) (nodeCount network))
 
   pub edges-low : edges ≤ 65535
-  edges-low = let few = t .checked .sound .few-edges in omega (arith, count-le (reaches f network numbers k) (edgeCount network))
+  edges-low = let few = t .tables .checked .sound .few-edges in omega (arith, count-le (reaches f network numbers k) (edgeCount network))
 
   pub nodes-fit : Fits w16 nodes
   nodes-fit = let h = nodes-low in omega arith

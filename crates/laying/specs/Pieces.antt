@@ -22,7 +22,7 @@ use Rattle.reading.specs.Parts.{boxBytes, wireAt, wireBytes}
 use Rattle.reading.specs.Whole.{HouseNetwork, readNetwork, readSheet}
 use Rattle.marking.specs.Marks.{reaches}
 use Rattle.marking.specs.Parts.{pieceOf, Parted}
-use Rattle.marking.specs.Tables.{CheckedNetwork, CheckedSheet, Noted, Numbered}
+use Rattle.marking.specs.Tables.{CheckedNetwork, CheckedSheet, Noted, RowTables}
 
 -- A node whose note is promised. o and n are the offsets of the node and of the note, w the width of a route.
 unfoldable pub promisedRow : ℕ → List ℕ → ℕ → List ℕ → ℕ → List ℕ
@@ -72,10 +72,7 @@ pub record NodeTables (f : Form) (network sheet entries parts : List ℕ) : Type
   pub noted : Noted f network sheet (nodeCount network) entries
   pub ours : (i : ℕ) → i < nodeCount network → 2 ≤ getD parts i 0 → isOwn f network i ≡ true
 
--- The same, with the numbers and the parts that make fragment k.
+-- the tables of all rows, and the parts that make fragment k
 pub record Tabled (f : Form) (network sheet entries numbers parts : List ℕ) (k : ℕ) : Type 0 where
-  pub checked : CheckedNetwork f network
-  pub formed : CheckedSheet f sheet
-  pub noted : Noted f network sheet (nodeCount network) entries
-  pub numbered : Numbered f network sheet (nodeCount network) numbers
+  pub tables : RowTables f network sheet entries numbers
   pub parted : Parted f network sheet entries k (nodeCount network) parts

@@ -26,7 +26,8 @@ fn lay_nodes(
     n: usize,
     out: &mut [u8],
 ) -> usize
-    requires { ⌜ NodeTables form (now network) (now sheet) (now entries) (now parts) × (n ≡ nodeCount (now network)) × (length (joined (nodeBytes form (now network) (now sheet) (now entries) (now parts)) n) ≤ length (now out)) ⌝ }
+    requires { ⌜ NodeTables form (now network) (now sheet) (now entries) (now parts) ⌝ }
+    requires { ⌜ (n ≡ nodeCount (now network)) × (length (joined (nodeBytes form (now network) (now sheet) (now entries) (now parts)) n) ≤ length (now out)) ⌝ }
     ensures size { λ r. ⌜ r ≡ length (joined (nodeBytes form (now (network .entry)) (now (sheet .entry)) (now (entries .entry)) (now (parts .entry))) n) ⌝ }
     ensures laid { λ _. ⌜ now (out .exit) ≡ over (joined (nodeBytes form (now (network .entry)) (now (sheet .entry)) (now (entries .entry)) (now (parts .entry))) n) (now (out .entry)) ⌝ }
 {
@@ -50,7 +51,8 @@ fn lay_edges(
     n: usize,
     out: &mut [u8],
 )
-    requires { ⌜ CheckedNetwork form (now network) × Filled form (now network) (now rows) × (n ≡ edgeCount (now network)) × (length (joined (edgeBytes form (now network) (now numbers) k) n) ≤ length (now out)) ⌝ }
+    requires { ⌜ CheckedNetwork form (now network) × Filled form (now network) (now rows) ⌝ }
+    requires { ⌜ (n ≡ edgeCount (now network)) × (length (joined (edgeBytes form (now network) (now numbers) k) n) ≤ length (now out)) ⌝ }
     ensures { λ _. ⌜ now (out .exit) ≡ over (joined (edgeBytes form (now (network .entry)) (now (numbers .entry)) k) n) (now (out .entry)) ⌝ }
 {
     let mut o = 0;
@@ -76,7 +78,8 @@ fn lay_rows(
     k: u8,
     out: &mut [u8],
 )
-    requires { ⌜ NodeTables form (now network) (now sheet) (now entries) (now parts) × Filled form (now network) (now rows) × (length (rowsIn form (now network) (now sheet) (now entries) (now numbers) (now parts) k) ≤ length (now out)) ⌝ }
+    requires { ⌜ NodeTables form (now network) (now sheet) (now entries) (now parts) × Filled form (now network) (now rows) ⌝ }
+    requires { ⌜ length (rowsIn form (now network) (now sheet) (now entries) (now numbers) (now parts) k) ≤ length (now out) ⌝ }
     ensures { λ _. ⌜ now (out .exit) ≡ over (rowsIn form (now (network .entry)) (now (sheet .entry)) (now (entries .entry)) (now (numbers .entry)) (now (parts .entry)) k) (now (out .entry)) ⌝ }
 {
     let nodes = u16_at(network, 5) as usize;
@@ -97,7 +100,8 @@ pub fn lay_parts(
     k: u8,
     out: &mut [u8],
 )
-    requires { ⌜ NodeTables form (now network) (now sheet) (now entries) (now parts) × Filled form (now network) (now rows) × (length (partsIn form (now network) (now sheet) (now entries) (now numbers) (now parts) k) ≤ length (now out)) ⌝ }
+    requires { ⌜ NodeTables form (now network) (now sheet) (now entries) (now parts) × Filled form (now network) (now rows) ⌝ }
+    requires { ⌜ length (partsIn form (now network) (now sheet) (now entries) (now numbers) (now parts) k) ≤ length (now out) ⌝ }
     ensures { λ _. ⌜ now (out .exit) ≡ over (partsIn form (now (network .entry)) (now (sheet .entry)) (now (entries .entry)) (now (numbers .entry)) (now (parts .entry)) k) (now (out .entry)) ⌝ }
 {
     let a = node_part(network) - 10;

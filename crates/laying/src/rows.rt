@@ -59,7 +59,8 @@ pub fn put_node(
     i: usize,
     out: &mut [u8],
 ) -> usize
-    requires { ⌜ NodeTables form (now network) (now sheet) (now entries) (now parts) × (i < nodeCount (now network)) × (length (nodeBytes form (now network) (now sheet) (now entries) (now parts) i) ≤ length (now out)) ⌝ }
+    requires { ⌜ NodeTables form (now network) (now sheet) (now entries) (now parts) ⌝ }
+    requires { ⌜ (i < nodeCount (now network)) × (length (nodeBytes form (now network) (now sheet) (now entries) (now parts) i) ≤ length (now out)) ⌝ }
     ensures size { λ r. ⌜ r ≡ length (nodeBytes form (now (network .entry)) (now (sheet .entry)) (now (entries .entry)) (now (parts .entry)) i) ⌝ }
     ensures laid { λ _. ⌜ now (out .exit) ≡ over (nodeBytes form (now (network .entry)) (now (sheet .entry)) (now (entries .entry)) (now (parts .entry)) i) (now (out .entry)) ⌝ }
 {
@@ -95,7 +96,8 @@ pub fn put_edge(
     at: usize,
     out: &mut [u8],
 ) -> usize
-    requires { ⌜ CheckedNetwork form (now network) × Filled form (now network) (now rows) × (j < edgeCount (now network)) × (at ≡ edgeOffset form (now network) j) × (length (edgeBytes form (now network) (now numbers) k j) ≤ length (now out)) ⌝ }
+    requires { ⌜ CheckedNetwork form (now network) × Filled form (now network) (now rows) ⌝ }
+    requires { ⌜ (j < edgeCount (now network)) × (at ≡ edgeOffset form (now network) j) × (length (edgeBytes form (now network) (now numbers) k j) ≤ length (now out)) ⌝ }
     ensures size { λ r. ⌜ r ≡ length (edgeBytes form (now (network .entry)) (now (numbers .entry)) k j) ⌝ }
     ensures laid { λ _. ⌜ now (out .exit) ≡ over (edgeBytes form (now (network .entry)) (now (numbers .entry)) k j) (now (out .entry)) ⌝ }
 {

@@ -3,6 +3,7 @@
 --     boxIn, ownMeets                  the box in a row
 --     entered, Noted, Numbered         the rows of the sheet's entries, and the fragment numbers
 --     otherNumber, unclashed           the rows that 18 and 19 pass over
+--     RowTables                        the records and both tables
 use Prim.Native.Nat.{ℕ, _<_}
 use mathlib.Core.Bool.{Bool, true, cond, not, _&&_}
 use mathlib.Core.List.{List}
@@ -82,3 +83,10 @@ module _ (f : Form) (network sheet : List ℕ) where
   pub record Noted (n : ℕ) (entries : List ℕ) : Type 0 where
     pub long : length entries ≡ 1024
     pub row : (i : ℕ) → i < n → isOwn f network i ≡ true → NotedAt i (getD entries i 0)
+
+-- two records that are not refused, and the tables of all their rows
+pub record RowTables (f : Form) (network sheet entries numbers : List ℕ) : Type 0 where
+  pub checked : CheckedNetwork f network
+  pub formed : CheckedSheet f sheet
+  pub noted : Noted f network sheet (nodeCount network) entries
+  pub numbered : Numbered f network sheet (nodeCount network) numbers

@@ -48,7 +48,8 @@ fn mark_wire(
     leaves: &mut [u8; 1024],
     feeds: &mut [u8; 1024],
 ) -> bool
-    requires { ⌜ CheckedNetwork form (now network) × Filled form (now network) (now rows) × (j < edgeCount (now network)) × (at ≡ edgeOffset form (now network) j) ⌝ }
+    requires { ⌜ CheckedNetwork form (now network) × Filled form (now network) (now rows) ⌝ }
+    requires { ⌜ (j < edgeCount (now network)) × (at ≡ edgeOffset form (now network) j) ⌝ }
     ensures kept { λ r. ⌜ r ≡ reaches form (now (network .entry)) (now (numbers .entry)) k j ⌝ }
     ensures left { λ _. ⌜ now (leaves .exit) ≡ markedBy form (now (network .entry)) (crosses form (now (network .entry)) (now (numbers .entry))) j (now (leaves .entry)) ⌝ }
     ensures fed { λ _. ⌜ now (feeds .exit) ≡ markedBy form (now (network .entry)) (reaches form (now (network .entry)) (now (numbers .entry)) k) j (now (feeds .entry)) ⌝ }
@@ -80,7 +81,8 @@ pub fn mark_wires(
     feeds: &mut [u8; 1024],
 ) -> usize
     requires { ⌜ CheckedNetwork form (now network) × Filled form (now network) (now rows) × (n ≡ edgeCount (now network)) ⌝ }
-    requires { ⌜ (length (now leaves) ≡ 1024) × (length (now feeds) ≡ 1024) × Marked form (now network) (crosses form (now network) (now numbers)) 0 (now leaves) × Marked form (now network) (reaches form (now network) (now numbers) k) 0 (now feeds) ⌝ }
+    requires { ⌜ (length (now leaves) ≡ 1024) × (length (now feeds) ≡ 1024) ⌝ }
+    requires { ⌜ Marked form (now network) (crosses form (now network) (now numbers)) 0 (now leaves) × Marked form (now network) (reaches form (now network) (now numbers) k) 0 (now feeds) ⌝ }
     ensures kept { λ r. ⌜ r ≡ count (reaches form (now (network .entry)) (now (numbers .entry)) k) n ⌝ }
     ensures left { λ _. ⌜ Marked form (now (network .entry)) (crosses form (now (network .entry)) (now (numbers .entry))) n (now (leaves .exit)) ⌝ }
     ensures fed { λ _. ⌜ Marked form (now (network .entry)) (reaches form (now (network .entry)) (now (numbers .entry)) k) n (now (feeds .exit)) ⌝ }

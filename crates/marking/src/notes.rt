@@ -26,7 +26,8 @@ pub fn note_offset(
     entries: &[u16; 1024],
     i: usize,
 ) -> usize
-    requires { ⌜ CheckedNetwork form (now network) × CheckedSheet form (now sheet) × Noted form (now network) (now sheet) (nodeCount (now network)) (now entries) × (i < nodeCount (now network)) × (isOwn form (now network) i ≡ true) ⌝ }
+    requires { ⌜ CheckedNetwork form (now network) × CheckedSheet form (now sheet) ⌝ }
+    requires { ⌜ Noted form (now network) (now sheet) (nodeCount (now network)) (now entries) × (i < nodeCount (now network)) × (isOwn form (now network) i ≡ true) ⌝ }
     ensures { λ r. ⌜ (r ≡ noteOffset form (now (entries .entry)) i) × (r + form .route ≤ length (now (sheet .entry))) ⌝ }
 {
     let entry = wide16(entries[i]);
@@ -42,7 +43,8 @@ fn keeps_promise(
     leaves: &[u8; 1024],
     i: usize,
 ) -> bool
-    requires { ⌜ CheckedNetwork form (now network) × CheckedSheet form (now sheet) × Noted form (now network) (now sheet) (nodeCount (now network)) (now entries) × (i < nodeCount (now network)) × Leaving form (now network) (now sheet) (now leaves) ⌝ }
+    requires { ⌜ CheckedNetwork form (now network) × CheckedSheet form (now sheet) ⌝ }
+    requires { ⌜ Noted form (now network) (now sheet) (nodeCount (now network)) (now entries) × (i < nodeCount (now network)) × Leaving form (now network) (now sheet) (now leaves) ⌝ }
     ensures { λ r. ⌜ r ≡ unclashed form (now (network .entry)) (now (sheet .entry)) i ⌝ }
 {
     if !is_own(form, network, i) {
@@ -72,7 +74,8 @@ pub fn first_clash(
     leaves: &[u8; 1024],
     n: usize,
 ) -> usize
-    requires { ⌜ CheckedNetwork form (now network) × CheckedSheet form (now sheet) × Noted form (now network) (now sheet) (nodeCount (now network)) (now entries) × (n ≡ nodeCount (now network)) × Leaving form (now network) (now sheet) (now leaves) ⌝ }
+    requires { ⌜ CheckedNetwork form (now network) × CheckedSheet form (now sheet) ⌝ }
+    requires { ⌜ Noted form (now network) (now sheet) (nodeCount (now network)) (now entries) × (n ≡ nodeCount (now network)) × Leaving form (now network) (now sheet) (now leaves) ⌝ }
     ensures { λ r. ⌜ r ≡ firstBad (unclashed form (now (network .entry)) (now (sheet .entry))) n ⌝ }
 {
     let mut i = 0;

@@ -6,7 +6,7 @@ ghost use Rattle.lists.specs.Gather.{count};
 ghost use Rattle.records.specs.Layout.{nodeCount};
 ghost use Rattle.marking.specs.Marks.{Leaving, Feeding};
 ghost use Rattle.marking.specs.Parts.{keeps, Part, Parted};
-ghost use Rattle.marking.specs.Tables.{CheckedNetwork, Noted, Numbered};
+ghost use Rattle.marking.specs.Tables.{RowTables};
 use crate::marks::one_if;
 use records::Form;
 use records::is_own;
@@ -25,7 +25,7 @@ fn part_of(
     k: u8,
     i: usize,
 ) -> u8
-    requires { ⌜ CheckedNetwork form (now network) × Noted form (now network) (now sheet) (nodeCount (now network)) (now entries) × Numbered form (now network) (now sheet) (nodeCount (now network)) (now numbers) × (i < nodeCount (now network)) ⌝ }
+    requires { ⌜ RowTables form (now network) (now sheet) (now entries) (now numbers) × (i < nodeCount (now network)) ⌝ }
     requires { ⌜ Leaving form (now network) (now sheet) (now leaves) × Feeding form (now network) (now sheet) k (now feeds) ⌝ }
     ensures { λ r. ⌜ Part form (now (network .entry)) (now (sheet .entry)) (now (entries .entry)) k i r ⌝ }
 {
@@ -60,7 +60,8 @@ pub fn sort_rows(
     n: usize,
     parts: &mut [u8; 1024],
 ) -> usize
-    requires { ⌜ CheckedNetwork form (now network) × Noted form (now network) (now sheet) (nodeCount (now network)) (now entries) × Numbered form (now network) (now sheet) (nodeCount (now network)) (now numbers) × (n ≡ nodeCount (now network)) × (length (now parts) ≡ 1024) ⌝ }
+    requires { ⌜ RowTables form (now network) (now sheet) (now entries) (now numbers) ⌝ }
+    requires { ⌜ (n ≡ nodeCount (now network)) × (length (now parts) ≡ 1024) ⌝ }
     requires { ⌜ Leaving form (now network) (now sheet) (now leaves) × Feeding form (now network) (now sheet) k (now feeds) ⌝ }
     ensures kept { λ r. ⌜ r ≡ count (keeps form (now (network .entry)) (now (sheet .entry)) k) n ⌝ }
     ensures sorted { λ _. ⌜ Parted form (now (network .entry)) (now (sheet .entry)) (now (entries .entry)) k n (now (parts .exit)) ⌝ }

@@ -18,10 +18,10 @@ cast-m : tie.Need-cast-m
 cast-m c = search needs
 
 mark-wires-requires : tie.Need-mark-wires-requires
-mark-wires-requires c κs = ((search needs, search needs, search needs), (search tables-start, search tables-start, search tables-start, search tables-start))
+mark-wires-requires c κs = (search needs, (search tables-start, search tables-start))
 
 first-clash-requires : tie.Need-first-clash-requires
-first-clash-requires c κs = (search needs, search needs, search needs, search needs, search tables-whole)
+first-clash-requires c κs = (search needs, (search needs, search needs, search tables-whole))
 
 node-id-requires : tie.Need-node-id-requires
 node-id-requires c κs = search needs
@@ -30,7 +30,7 @@ returns : tie.Need-returns
 returns c = (search cutting-19, search cutting-19)
 
 cut-agreed-requires : tie.Need-cut-agreed-requires
-cut-agreed-requires c κs = ((search needs, search needs, search needs, search needs, search needs, search tables-whole), (search tables-whole, search tables-whole))
+cut-agreed-requires c κs = (search needs, (search tables-whole, search tables-whole))
 
 same-length : tie.Need-same-length
 same-length c = search needs

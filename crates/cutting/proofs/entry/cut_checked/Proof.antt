@@ -12,7 +12,7 @@ cast-n : tie.Need-cast-n
 cast-n c = search needs
 
 enter-requires : tie.Need-enter-requires
-enter-requires c κs = (search needs, search needs, search needs, search tables-start, search tables-start)
+enter-requires c κs = (search needs, (search needs, search tables-start, search tables-start))
 
 node-id-requires : tie.Need-node-id-requires
 node-id-requires c κs = search needs
@@ -21,7 +21,7 @@ returns : tie.Need-returns
 returns c = (search cutting-17, search cutting-17)
 
 cut-entered-requires : tie.Need-cut-entered-requires
-cut-entered-requires c κs = (search needs, search needs, search needs, search cutting-17, search cutting-17, search cutting-17)
+cut-entered-requires c κs = (search cutting-17, search needs, search cutting-17)
 
 same-length : tie.Need-same-length
 same-length c = search needs

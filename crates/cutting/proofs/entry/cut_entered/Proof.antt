@@ -17,7 +17,7 @@ returns : tie.Need-returns
 returns c = (search cutting-18, search cutting-18)
 
 cut-asked-requires : tie.Need-cut-asked-requires
-cut-asked-requires c κs = (search needs, search needs, search needs, search needs, search needs, search needs, search cutting-18)
+cut-asked-requires c κs = (search needs, search needs, search needs, search cutting-18)
 
 same-length : tie.Need-same-length
 same-length c = search needs

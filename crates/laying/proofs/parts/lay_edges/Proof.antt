@@ -31,7 +31,7 @@ part-put-edge-end : tie.Need-part-put-edge-end Inv-loop μ-loop
 part-put-edge-end c = search (needs, laying, offsets)
 
 put-edge-requires : tie.Need-put-edge-requires Inv-loop μ-loop
-put-edge-requires c κs = (search needs, search needs, search needs, search needs, search edge-fits)
+put-edge-requires c κs = (search needs, (search needs, search needs, search edge-fits))
 
 add-o : tie.Need-add-o Inv-loop μ-loop
 add-o c = search (needs, laying, offsets)

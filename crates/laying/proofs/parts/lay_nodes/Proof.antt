@@ -26,7 +26,7 @@ part-put-node-end : tie.Need-part-put-node-end Inv-loop μ-loop
 part-put-node-end c = search (needs, laying)
 
 put-node-requires : tie.Need-put-node-requires Inv-loop μ-loop
-put-node-requires c κs = (search needs, search needs, search node-fits)
+put-node-requires c κs = (search needs, (search needs, search node-fits))
 
 add-o : tie.Need-add-o Inv-loop μ-loop
 add-o c = search (needs, laying)

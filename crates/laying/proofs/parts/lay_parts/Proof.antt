@@ -23,7 +23,7 @@ part-lay-rows-end : tie.Need-part-lay-rows-end
 part-lay-rows-end c = search (needs, parting)
 
 lay-rows-requires : tie.Need-lay-rows-requires
-lay-rows-requires c κs = (search needs, search needs, search parting)
+lay-rows-requires c κs = (search needs, search parting)
 
 same-length : tie.Need-same-length
 same-length c = search (needs, parting)

@@ -17,7 +17,7 @@ cast-edges : tie.Need-cast-edges
 cast-edges c = search (needs, rowing)
 
 lay-nodes-requires : tie.Need-lay-nodes-requires
-lay-nodes-requires c κs = (search needs, search needs, search rowing)
+lay-nodes-requires c κs = (search needs, (search needs, search rowing))
 
 sub-lay-edges : tie.Need-sub-lay-edges
 sub-lay-edges c = search (needs, rowing)
@@ -29,7 +29,7 @@ part-lay-edges-end : tie.Need-part-lay-edges-end
 part-lay-edges-end c = search (needs, rowing)
 
 lay-edges-requires : tie.Need-lay-edges-requires
-lay-edges-requires c κs = (search needs, search needs, search needs, search rowing)
+lay-edges-requires c κs = (search needs, (search needs, search rowing))
 
 same-length : tie.Need-same-length
 same-length c = search (needs, rowing)

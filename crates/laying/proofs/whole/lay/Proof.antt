@@ -36,7 +36,7 @@ part-lay-parts-end : tie.Need-part-lay-parts-end
 part-lay-parts-end c = search needs
 
 lay-parts-requires : tie.Need-lay-parts-requires
-lay-parts-requires c κs = (search recording, search needs, search recording)
+lay-parts-requires c κs = ((search recording, search needs), search recording)
 
 same-length : tie.Need-same-length
 same-length c = search needs

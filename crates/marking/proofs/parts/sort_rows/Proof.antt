@@ -15,7 +15,7 @@ loop-holds : tie.Need-loop-holds Inv-loop μ-loop
 loop-holds c = search (needs, partings)
 
 part-of-requires : tie.Need-part-of-requires Inv-loop μ-loop
-part-of-requires c κs = (search needs, search needs)
+part-of-requires c κs = search needs
 
 element-write-parts : tie.Need-element-write-parts Inv-loop μ-loop
 element-write-parts c = search (needs, partings)

@@ -15,7 +15,7 @@ loop-holds : tie.Need-loop-holds Inv-loop μ-loop
 loop-holds c = search (needs, entries)
 
 enter-row-requires : tie.Need-enter-row-requires Inv-loop μ-loop
-enter-row-requires c κs = search (needs, entries)
+enter-row-requires c κs = (search needs, (search needs, search needs, search needs))
 
 returns : tie.Need-returns Inv-loop μ-loop
 returns c = (search (needs, entries), (search (needs, entries), search (needs, entries)))
