@@ -14,19 +14,28 @@ const WARM: usize = 300;
 const TURNS: usize = 2_000;
 
 fn main() {
-    println!("nanoseconds a call, the median of {TURNS}; the bar is {BAR} times the reference");
-    println!("load       boxes  wires  call     proved  reference  ratio");
+    println!(
+        "nanoseconds a call, of {TURNS}: what a tenth of the calls stay within, and the median"
+    );
+    println!("                                   a tenth                       the median");
+    println!(
+        "load       boxes  wires  call     proved  reference  ratio   proved  reference  ratio"
+    );
     let mut over = Vec::new();
     for load in bench::loads() {
         let (judge, cut, whole) = (load.judge_input(), load.cut_input(), load.whole_input());
         let mut out = vec![0; record::LARGEST_NETWORK];
-        let mut show = |call, [proved, reference]: [u128; 2]| {
+        let mut show = |call, [proved, reference]: [Taken; 2]| {
             let (name, boxes, wires) = (&load.name, load.boxes, load.wires);
-            let ratio = proved as f64 / reference as f64;
-            println!("{name:<10} {boxes:>5} {wires:>6}  {call:<6} {proved:>8} {reference:>10} {ratio:>6.2}");
-            if largest(&load) && ratio > BAR {
-                over.push(format!("{name} {call}"));
+            print!("{name:<10} {boxes:>5} {wires:>6}  {call:<6}");
+            for (proved, reference) in proved.into_iter().zip(reference) {
+                let ratio = proved as f64 / reference as f64;
+                print!(" {proved:>8} {reference:>10} {ratio:>6.2}");
+                if largest(&load) && ratio > BAR {
+                    over.push(format!("{name} {call}"));
+                }
             }
+            println!();
         };
         let network = &load.network[..];
         assert_eq!(library::check(network), 0);
@@ -38,7 +47,12 @@ fn main() {
             ),
         );
         for (call, input, proved, reference) in [
-            ("judge", &judge, library::judge as Proved, program::judge_bytes as Reference),
+            (
+                "judge",
+                &judge,
+                library::judge as Proved,
+                program::judge_bytes as Reference,
+            ),
             ("cut", &cut, library::cut, program::cut_bytes),
             ("whole", &whole, library::cut, program::cut_bytes),
         ] {
@@ -54,8 +68,8 @@ fn main() {
         }
     }
     match &over[..] {
-        [] => println!("all within the bar on the largest records"),
-        over => println!("over the bar: {}", over.join(", ")),
+        [] => println!("all within {BAR} times the reference on the largest records"),
+        over => println!("over {BAR} times the reference: {}", over.join(", ")),
     }
 }
 
@@ -67,8 +81,12 @@ fn largest(load: &Load) -> bool {
     !load.name.starts_with("wires")
 }
 
-/// The medians of two calls that take turns.
-fn both<A, B>(mut one: impl FnMut() -> A, mut other: impl FnMut() -> B) -> [u128; 2] {
+/// What a tenth of the calls stay within, and the median. Other work on the machine can only make a
+/// call longer, so the first says more of the code and the second more of the day.
+type Taken = [u128; 2];
+
+/// Times two calls that take turns.
+fn both<A, B>(mut one: impl FnMut() -> A, mut other: impl FnMut() -> B) -> [Taken; 2] {
     let mut measures = [Vec::new(), Vec::new()];
     for turn in 0..WARM + TURNS {
         let taken = [time(&mut one), time(&mut other)];
@@ -80,7 +98,7 @@ fn both<A, B>(mut one: impl FnMut() -> A, mut other: impl FnMut() -> B) -> [u128
     }
     measures.map(|mut all| {
         all.sort_unstable();
-        all[all.len() / 2]
+        [all[all.len() / 10], all[all.len() / 2]]
     })
 }
 
