@@ -2,7 +2,6 @@
 // Those about the greatest counts are run by `boundaries`.
 //
 // Standard input has the chain's network and the sheet that cuts it 1, 2 | 3.
-ghost use mathlib.Core.Path.{_≡_};
 ghost use Prim.Native.Nat.{_≤_};
 ghost use lib.ListN.{length};
 use cutting::CutAnswer;
