@@ -28,7 +28,8 @@ fn judge_entered(
     rows: &[u16; 65536],
     places: &[u16; 1024],
 ) -> Verdict
-    requires { ⌜ Ready form (now network) (now list) (now rows) × PlacedTo form (now network) (now list) (now places) (nodeCount (now network)) ⌝ }
+    requires { ⌜ Ready form (now network) (now list) (now rows) ⌝ }
+    requires { ⌜ PlacedTo form (now network) (now list) (now places) (nodeCount (now network)) ⌝ }
     ensures { λ r. ⌜ answerOf r ≡ verdictAt form (now (network .entry)) (now (list .entry)) ⌝ }
 {
     let mut there = [0u8; 1024];
@@ -39,7 +40,10 @@ fn judge_entered(
 
 // Judges a list against a network, both of them not refused: 17 before the search.
 fn judge_sound(form: Form, network: &[u8], list: &[u8], rows: &[u16; 65536]) -> Verdict
-    requires { ⌜ Usable form × NetworkFine form (now network) × EntriesFine form listLead (now list) × Filled form (now network) (now rows) ⌝ }
+    requires { ⌜ Usable form ⌝ }
+    requires { ⌜ NetworkFine form (now network) ⌝ }
+    requires { ⌜ EntriesFine form listLead (now list) ⌝ }
+    requires { ⌜ Filled form (now network) (now rows) ⌝ }
     ensures { λ r. ⌜ answerOf r ≡ judgeAt form (now (network .entry)) (now (list .entry)) ⌝ }
 {
     let mut places = [0u16; 1024];

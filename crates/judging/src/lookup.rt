@@ -38,7 +38,9 @@ fn box_part<'a>(
     places: &[u16; 1024],
     id: u16,
 ) -> &'a [u8]
-    requires { ⌜ Ready form (now network) (now list) (now rows) × PlacedTo form (now network) (now list) (now places) (nodeCount (now network)) × (boxed form (now network) id ≡ true) ⌝ }
+    requires { ⌜ Ready form (now network) (now list) (now rows) ⌝ }
+    requires { ⌜ PlacedTo form (now network) (now list) (now places) (nodeCount (now network)) ⌝ }
+    requires { ⌜ boxed form (now network) id ≡ true ⌝ }
     ensures { λ r. ⌜ now r ≡ boxPart form (now (network .entry)) (now (list .entry)) id ⌝ }
 {
     let width = form.route;
@@ -58,7 +60,8 @@ fn named_part<'a>(
     places: &[u16; 1024],
     id: u16,
 ) -> &'a [u8]
-    requires { ⌜ Ready form (now network) (now list) (now rows) × PlacedTo form (now network) (now list) (now places) (nodeCount (now network)) ⌝ }
+    requires { ⌜ Ready form (now network) (now list) (now rows) ⌝ }
+    requires { ⌜ PlacedTo form (now network) (now list) (now places) (nodeCount (now network)) ⌝ }
     ensures { λ r. ⌜ now r ≡ namedPart form (now (network .entry)) (now (list .entry)) id ⌝ }
 {
     if rows[id as usize] == 0 {
@@ -75,7 +78,10 @@ fn neighbour_sound<'a>(
     rows: &[u16; 65536],
     id: u16,
 ) -> &'a [u8]
-    requires { ⌜ Usable form × NetworkFine form (now network) × EntriesFine form listLead (now list) × Filled form (now network) (now rows) ⌝ }
+    requires { ⌜ Usable form ⌝ }
+    requires { ⌜ NetworkFine form (now network) ⌝ }
+    requires { ⌜ EntriesFine form listLead (now list) ⌝ }
+    requires { ⌜ Filled form (now network) (now rows) ⌝ }
     ensures { λ r. ⌜ now r ≡ neighbourAt form (now (network .entry)) (now (list .entry)) id ⌝ }
 {
     let mut places = [0u16; 1024];
