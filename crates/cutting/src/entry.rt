@@ -92,10 +92,7 @@ fn cut_asked(
     k: u8,
     out: &mut [u8],
 ) -> CutAnswer
-    requires { ⌜ RowTables form (now network) (now sheet) (now entries) (now numbers) ⌝ }
-    requires { ⌜ Filled form (now network) (now rows) ⌝ }
-    requires { ⌜ Entered form (now network) (now sheet) ⌝ }
-    requires { ⌜ Asked form (now network) (now sheet) k ⌝ }
+    requires { ⌜ RowTables form (now network) (now sheet) (now entries) (now numbers) × Filled form (now network) (now rows) × Entered form (now network) (now sheet) × Asked form (now network) (now sheet) k ⌝ }
     ensures answer { λ r. ⌜ answerOf r ≡ recordAnswer form (length (now (out .entry))) (cutSaid form (now (network .entry)) (now (sheet .entry)) k) ⌝ }
     ensures buffer { λ _. ⌜ now (out .exit) ≡ laidAnswer form (cutSaid form (now (network .entry)) (now (sheet .entry)) k) (now (out .entry)) ⌝ }
 {
@@ -134,9 +131,7 @@ fn cut_entered(
     k: u8,
     out: &mut [u8],
 ) -> CutAnswer
-    requires { ⌜ RowTables form (now network) (now sheet) (now entries) (now numbers) ⌝ }
-    requires { ⌜ Filled form (now network) (now rows) ⌝ }
-    requires { ⌜ Entered form (now network) (now sheet) ⌝ }
+    requires { ⌜ RowTables form (now network) (now sheet) (now entries) (now numbers) × Filled form (now network) (now rows) × Entered form (now network) (now sheet) ⌝ }
     ensures answer { λ r. ⌜ answerOf r ≡ recordAnswer form (length (now (out .entry))) (cutSaid form (now (network .entry)) (now (sheet .entry)) k) ⌝ }
     ensures buffer { λ _. ⌜ now (out .exit) ≡ laidAnswer form (cutSaid form (now (network .entry)) (now (sheet .entry)) k) (now (out .entry)) ⌝ }
 {

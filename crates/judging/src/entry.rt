@@ -40,10 +40,8 @@ fn judge_entered(
 
 // Judges a list against a network, both of them not refused: 17 before the search.
 fn judge_sound(form: Form, network: &[u8], list: &[u8], rows: &[u16; 65536]) -> Verdict
-    requires { ⌜ Usable form ⌝ }
-    requires { ⌜ NetworkFine form (now network) ⌝ }
+    requires { ⌜ Usable form × NetworkFine form (now network) × Filled form (now network) (now rows) ⌝ }
     requires { ⌜ EntriesFine form listLead (now list) ⌝ }
-    requires { ⌜ Filled form (now network) (now rows) ⌝ }
     ensures { λ r. ⌜ answerOf r ≡ judgeAt form (now (network .entry)) (now (list .entry)) ⌝ }
 {
     let mut places = [0u16; 1024];

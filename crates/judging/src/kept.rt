@@ -32,11 +32,8 @@ fn place_entry(
     i: usize,
     near: usize,
 ) -> bool
-    requires { ⌜ Room form (now network) ⌝ }
-    requires { ⌜ i < nodeCount (now network) ⌝ }
-    requires { ⌜ EntriesRoom form listLead (now list) ⌝ }
-    requires { ⌜ Rising (entryId form listLead (now list)) (entryCount (now list)) ⌝ }
-    requires { ⌜ length (now places) ≡ 1024 ⌝ }
+    requires { ⌜ Room form (now network) × (i < nodeCount (now network)) × (length (now places) ≡ 1024) ⌝ }
+    requires { ⌜ EntriesRoom form listLead (now list) × Rising (entryId form listLead (now list)) (entryCount (now list)) ⌝ }
     ensures entered { λ r. ⌜ r ≡ enteredAt form (now (network .entry)) (now (list .entry)) i ⌝ }
     ensures table { λ _. ⌜ now (places .exit) ≡ withEntry form (now (network .entry)) (now (list .entry)) i (now (places .entry)) ⌝ }
 {
@@ -54,10 +51,8 @@ fn place_entry(
 // Stores the row of each own box's entry in places, up to the first own box without an entry, and answers that box's row,
 // or the number of nodes where every own box has one.
 pub fn place_entries(form: Form, network: &[u8], list: &[u8], places: &mut [u16; 1024]) -> usize
-    requires { ⌜ Room form (now network) ⌝ }
-    requires { ⌜ EntriesRoom form listLead (now list) ⌝ }
-    requires { ⌜ Rising (entryId form listLead (now list)) (entryCount (now list)) ⌝ }
-    requires { ⌜ length (now places) ≡ 1024 ⌝ }
+    requires { ⌜ Room form (now network) × (length (now places) ≡ 1024) ⌝ }
+    requires { ⌜ EntriesRoom form listLead (now list) × Rising (entryId form listLead (now list)) (entryCount (now list)) ⌝ }
     ensures first { λ r. ⌜ r ≡ firstBad (enteredAt form (now (network .entry)) (now (list .entry))) (nodeCount (now (network .entry))) ⌝ }
     ensures table { λ r. ⌜ PlacedTo form (now (network .entry)) (now (list .entry)) (now (places .exit)) r ⌝ }
     ensures bytes { λ _. ⌜ Bytes (now (network .entry)) ⌝ }
@@ -84,11 +79,8 @@ fn keep(
     fields: &mut [u64; 1024],
     i: usize,
 )
-    requires { ⌜ 9 ≤ width ⌝ }
-    requires { ⌜ at + width ≤ length (now b) ⌝ }
-    requires { ⌜ i < 1024 ⌝ }
-    requires { ⌜ length (now there) ≡ 1024 ⌝ }
-    requires { ⌜ length (now fields) ≡ 1024 ⌝ }
+    requires { ⌜ (9 ≤ width) × (at + width ≤ length (now b)) ⌝ }
+    requires { ⌜ (i < 1024) × (length (now there) ≡ 1024) × (length (now fields) ≡ 1024) ⌝ }
     ensures there { λ _. ⌜ now (there .exit) ≡ set (now (there .entry)) i (getD (now (b .entry)) at 0) ⌝ }
     ensures fields { λ _. ⌜ now (fields .exit) ≡ set (now (fields .entry)) i (packedAt width (now (b .entry)) at) ⌝ }
     ensures route { λ _. ⌜ routeIn (getD (now (b .entry)) at 0) (packedAt width (now (b .entry)) at) ≡ routeAt width (now (b .entry)) at ⌝ }
@@ -107,10 +99,8 @@ fn keep_route(
     fields: &mut [u64; 1024],
     i: usize,
 )
-    requires { ⌜ Listed form (now network) (now list) ⌝ }
-    requires { ⌜ PlacedTo form (now network) (now list) (now places) (nodeCount (now network)) ⌝ }
-    requires { ⌜ i < nodeCount (now network) ⌝ }
-    requires { ⌜ Kept form (now network) (now list) (now there) (now fields) i ⌝ }
+    requires { ⌜ Listed form (now network) (now list) × PlacedTo form (now network) (now list) (now places) (nodeCount (now network)) ⌝ }
+    requires { ⌜ (i < nodeCount (now network)) × Kept form (now network) (now list) (now there) (now fields) i ⌝ }
     ensures { λ _. ⌜ Kept form (now (network .entry)) (now (list .entry)) (now (there .exit)) (now (fields .exit)) (i + 1) ⌝ }
 {
     let width = form.route;
@@ -132,8 +122,7 @@ pub fn keep_routes(
     there: &mut [u8; 1024],
     fields: &mut [u64; 1024],
 )
-    requires { ⌜ Listed form (now network) (now list) ⌝ }
-    requires { ⌜ PlacedTo form (now network) (now list) (now places) (nodeCount (now network)) ⌝ }
+    requires { ⌜ Listed form (now network) (now list) × PlacedTo form (now network) (now list) (now places) (nodeCount (now network)) ⌝ }
     requires { ⌜ Kept form (now network) (now list) (now there) (now fields) 0 ⌝ }
     ensures { λ _. ⌜ Kept form (now (network .entry)) (now (list .entry)) (now (there .exit)) (now (fields .exit)) (nodeCount (now (network .entry))) ⌝ }
 {

@@ -38,8 +38,7 @@ fn box_part<'a>(
     places: &[u16; 1024],
     id: u16,
 ) -> &'a [u8]
-    requires { ⌜ Ready form (now network) (now list) (now rows) ⌝ }
-    requires { ⌜ PlacedTo form (now network) (now list) (now places) (nodeCount (now network)) ⌝ }
+    requires { ⌜ Ready form (now network) (now list) (now rows) × PlacedTo form (now network) (now list) (now places) (nodeCount (now network)) ⌝ }
     requires { ⌜ boxed form (now network) id ≡ true ⌝ }
     ensures { λ r. ⌜ now r ≡ boxPart form (now (network .entry)) (now (list .entry)) id ⌝ }
 {
@@ -78,10 +77,8 @@ fn neighbour_sound<'a>(
     rows: &[u16; 65536],
     id: u16,
 ) -> &'a [u8]
-    requires { ⌜ Usable form ⌝ }
-    requires { ⌜ NetworkFine form (now network) ⌝ }
+    requires { ⌜ Usable form × NetworkFine form (now network) × Filled form (now network) (now rows) ⌝ }
     requires { ⌜ EntriesFine form listLead (now list) ⌝ }
-    requires { ⌜ Filled form (now network) (now rows) ⌝ }
     ensures { λ r. ⌜ now r ≡ neighbourAt form (now (network .entry)) (now (list .entry)) id ⌝ }
 {
     let mut places = [0u16; 1024];

@@ -45,8 +45,7 @@ fn with_wire(
     node: u16,
     due: Route,
 ) -> Route
-    requires { ⌜ Ready form (now network) (now list) (now rows) ⌝ }
-    requires { ⌜ Kept form (now network) (now list) (now there) (now fields) (nodeCount (now network)) ⌝ }
+    requires { ⌜ Ready form (now network) (now list) (now rows) × Kept form (now network) (now list) (now there) (now fields) (nodeCount (now network)) ⌝ }
     requires { ⌜ j < edgeCount (now network) ⌝ }
     ensures { λ r. ⌜ r ≡ withWire form (now (network .entry)) (now (list .entry)) j node due ⌝ }
 {

@@ -44,10 +44,8 @@ pub fn held_route(
     fields: &[u64; 1024],
     row: usize,
 ) -> Route
-    requires { ⌜ Listed form (now network) (now list) ⌝ }
-    requires { ⌜ Kept form (now network) (now list) (now there) (now fields) (nodeCount (now network)) ⌝ }
-    requires { ⌜ row < nodeCount (now network) ⌝ }
-    requires { ⌜ isOwn form (now network) row ≡ true ⌝ }
+    requires { ⌜ Listed form (now network) (now list) × Kept form (now network) (now list) (now there) (now fields) (nodeCount (now network)) ⌝ }
+    requires { ⌜ (row < nodeCount (now network)) × (isOwn form (now network) row ≡ true) ⌝ }
     ensures { λ r. ⌜ r ≡ held (house highest) (readList form (now (list .entry))) (nodeId form (now (network .entry)) row) ⌝ }
 {
     route_in(there[row], fields[row])
@@ -63,8 +61,7 @@ fn sender_route(
     fields: &[u64; 1024],
     id: u16,
 ) -> Route
-    requires { ⌜ Ready form (now network) (now list) (now rows) ⌝ }
-    requires { ⌜ Kept form (now network) (now list) (now there) (now fields) (nodeCount (now network)) ⌝ }
+    requires { ⌜ Ready form (now network) (now list) (now rows) × Kept form (now network) (now list) (now there) (now fields) (nodeCount (now network)) ⌝ }
     requires { ⌜ boxed form (now network) id ≡ true ⌝ }
     ensures { λ r. ⌜ r ≡ mapping (house highest) (readNetwork form (now (network .entry))) (readList form (now (list .entry))) id ⌝ }
 {
@@ -82,8 +79,7 @@ pub fn offer(
     fields: &[u64; 1024],
     j: usize,
 ) -> Route
-    requires { ⌜ Ready form (now network) (now list) (now rows) ⌝ }
-    requires { ⌜ Kept form (now network) (now list) (now there) (now fields) (nodeCount (now network)) ⌝ }
+    requires { ⌜ Ready form (now network) (now list) (now rows) × Kept form (now network) (now list) (now there) (now fields) (nodeCount (now network)) ⌝ }
     requires { ⌜ j < edgeCount (now network) ⌝ }
     ensures { λ r. ⌜ r ≡ offerAt form (now (network .entry)) (now (list .entry)) j ⌝ }
 {

@@ -27,8 +27,7 @@ fn lay_nodes(
     out: &mut [u8],
 ) -> usize
     requires { ⌜ NodeTables form (now network) (now sheet) (now entries) (now parts) ⌝ }
-    requires { ⌜ n ≡ nodeCount (now network) ⌝ }
-    requires { ⌜ length (joined (nodeBytes form (now network) (now sheet) (now entries) (now parts)) n) ≤ length (now out) ⌝ }
+    requires { ⌜ (n ≡ nodeCount (now network)) × (length (joined (nodeBytes form (now network) (now sheet) (now entries) (now parts)) n) ≤ length (now out)) ⌝ }
     ensures size { λ r. ⌜ r ≡ length (joined (nodeBytes form (now (network .entry)) (now (sheet .entry)) (now (entries .entry)) (now (parts .entry))) n) ⌝ }
     ensures laid { λ _. ⌜ now (out .exit) ≡ over (joined (nodeBytes form (now (network .entry)) (now (sheet .entry)) (now (entries .entry)) (now (parts .entry))) n) (now (out .entry)) ⌝ }
 {
@@ -53,8 +52,7 @@ fn lay_edges(
     out: &mut [u8],
 )
     requires { ⌜ CheckedNetwork form (now network) × Filled form (now network) (now rows) ⌝ }
-    requires { ⌜ n ≡ edgeCount (now network) ⌝ }
-    requires { ⌜ length (joined (edgeBytes form (now network) (now numbers) k) n) ≤ length (now out) ⌝ }
+    requires { ⌜ (n ≡ edgeCount (now network)) × (length (joined (edgeBytes form (now network) (now numbers) k) n) ≤ length (now out)) ⌝ }
     ensures { λ _. ⌜ now (out .exit) ≡ over (joined (edgeBytes form (now (network .entry)) (now (numbers .entry)) k) n) (now (out .entry)) ⌝ }
 {
     let mut o = 0;

@@ -27,10 +27,7 @@ pub fn put_part(out: &mut [u8], at: usize, src: &[u8], a: usize, n: usize)
 
 // The node at an offset with the note at an offset of the sheet as its promise.
 fn put_promised(form: Form, network: &[u8], at: usize, sheet: &[u8], note: usize, out: &mut [u8])
-    requires { ⌜ Usable form ⌝ }
-    requires { ⌜ at + (9 + form .route + form .route) ≤ length (now network) ⌝ }
-    requires { ⌜ note + form .route ≤ length (now sheet) ⌝ }
-    requires { ⌜ 9 + form .route + form .route ≤ length (now out) ⌝ }
+    requires { ⌜ Usable form × (at + (9 + form .route + form .route) ≤ length (now network)) × (note + form .route ≤ length (now sheet)) × (9 + form .route + form .route ≤ length (now out)) ⌝ }
     ensures { λ _. ⌜ now (out .exit) ≡ over (promisedRow (form .route) (now (network .entry)) at (now (sheet .entry)) note) (now (out .entry)) ⌝ }
 {
     let width = form.route;
@@ -42,10 +39,7 @@ fn put_promised(form: Form, network: &[u8], at: usize, sheet: &[u8], note: usize
 
 // The node at an offset as an input that is assumed to hold the note at an offset of the sheet.
 fn put_assumed(form: Form, network: &[u8], at: usize, sheet: &[u8], note: usize, out: &mut [u8])
-    requires { ⌜ Usable form ⌝ }
-    requires { ⌜ at + (9 + form .route + form .route) ≤ length (now network) ⌝ }
-    requires { ⌜ note + form .route ≤ length (now sheet) ⌝ }
-    requires { ⌜ 9 + form .route + form .route ≤ length (now out) ⌝ }
+    requires { ⌜ Usable form × (at + (9 + form .route + form .route) ≤ length (now network)) × (note + form .route ≤ length (now sheet)) × (9 + form .route + form .route ≤ length (now out)) ⌝ }
     ensures { λ _. ⌜ now (out .exit) ≡ over (assumedRow (form .route) (now (network .entry)) at (now (sheet .entry)) note) (now (out .entry)) ⌝ }
 {
     let width = form.route;
@@ -66,8 +60,7 @@ pub fn put_node(
     out: &mut [u8],
 ) -> usize
     requires { ⌜ NodeTables form (now network) (now sheet) (now entries) (now parts) ⌝ }
-    requires { ⌜ i < nodeCount (now network) ⌝ }
-    requires { ⌜ length (nodeBytes form (now network) (now sheet) (now entries) (now parts) i) ≤ length (now out) ⌝ }
+    requires { ⌜ (i < nodeCount (now network)) × (length (nodeBytes form (now network) (now sheet) (now entries) (now parts) i) ≤ length (now out)) ⌝ }
     ensures size { λ r. ⌜ r ≡ length (nodeBytes form (now (network .entry)) (now (sheet .entry)) (now (entries .entry)) (now (parts .entry)) i) ⌝ }
     ensures laid { λ _. ⌜ now (out .exit) ≡ over (nodeBytes form (now (network .entry)) (now (sheet .entry)) (now (entries .entry)) (now (parts .entry)) i) (now (out .entry)) ⌝ }
 {
@@ -104,9 +97,7 @@ pub fn put_edge(
     out: &mut [u8],
 ) -> usize
     requires { ⌜ CheckedNetwork form (now network) × Filled form (now network) (now rows) ⌝ }
-    requires { ⌜ j < edgeCount (now network) ⌝ }
-    requires { ⌜ at ≡ edgeOffset form (now network) j ⌝ }
-    requires { ⌜ length (edgeBytes form (now network) (now numbers) k j) ≤ length (now out) ⌝ }
+    requires { ⌜ (j < edgeCount (now network)) × (at ≡ edgeOffset form (now network) j) × (length (edgeBytes form (now network) (now numbers) k j) ≤ length (now out)) ⌝ }
     ensures size { λ r. ⌜ r ≡ length (edgeBytes form (now (network .entry)) (now (numbers .entry)) k j) ⌝ }
     ensures laid { λ _. ⌜ now (out .exit) ≡ over (edgeBytes form (now (network .entry)) (now (numbers .entry)) k j) (now (out .entry)) ⌝ }
 {

@@ -65,10 +65,8 @@ pub fn lay(
     edges: usize,
     out: &mut [u8],
 ) -> usize
-    requires { ⌜ Tabled form (now network) (now sheet) (now entries) (now numbers) (now parts) k ⌝ }
-    requires { ⌜ Filled form (now network) (now rows) ⌝ }
-    requires { ⌜ nodes ≡ count (keeps form (now network) (now sheet) k) (nodeCount (now network)) ⌝ }
-    requires { ⌜ edges ≡ count (reaches form (now network) (now numbers) k) (edgeCount (now network)) ⌝ }
+    requires { ⌜ Tabled form (now network) (now sheet) (now entries) (now numbers) (now parts) k × Filled form (now network) (now rows) ⌝ }
+    requires { ⌜ (nodes ≡ count (keeps form (now network) (now sheet) k) (nodeCount (now network))) × (edges ≡ count (reaches form (now network) (now numbers) k) (edgeCount (now network))) ⌝ }
     ensures size { λ r. ⌜ r ≡ length (writeNetwork form (fragmentIn form (now (network .entry)) (now (sheet .entry)) k)) ⌝ }
     ensures laid { λ _. ⌜ now (out .exit) ≡ placed (writeNetwork form (fragmentIn form (now (network .entry)) (now (sheet .entry)) k)) (now (out .entry)) ⌝ }
 {

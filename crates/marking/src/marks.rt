@@ -18,10 +18,7 @@ use records::wide16;
 
 // The row of the node whose id stands at an offset.
 pub fn row_at(form: Form, network: &[u8], rows: &[u16; 65536], at: usize) -> usize
-    requires { ⌜ Room form (now network) ⌝ }
-    requires { ⌜ Filled form (now network) (now rows) ⌝ }
-    requires { ⌜ at + 2 ≤ length (now network) ⌝ }
-    requires { ⌜ boxed form (now network) (u16At (now network) at) ≡ true ⌝ }
+    requires { ⌜ Room form (now network) × Filled form (now network) (now rows) × (at + 2 ≤ length (now network)) × (boxed form (now network) (u16At (now network) at) ≡ true) ⌝ }
     ensures { λ r. ⌜ (r ≡ rowOf form (now (network .entry)) (u16At (now (network .entry)) at)) × (r < 1024) ⌝ }
 {
     let row = wide16(rows[u16_at(network, at) as usize]);
@@ -85,8 +82,7 @@ pub fn mark_wires(
 ) -> usize
     requires { ⌜ CheckedNetwork form (now network) × Filled form (now network) (now rows) × (n ≡ edgeCount (now network)) ⌝ }
     requires { ⌜ (length (now leaves) ≡ 1024) × (length (now feeds) ≡ 1024) ⌝ }
-    requires { ⌜ Marked form (now network) (crosses form (now network) (now numbers)) 0 (now leaves) ⌝ }
-    requires { ⌜ Marked form (now network) (reaches form (now network) (now numbers) k) 0 (now feeds) ⌝ }
+    requires { ⌜ Marked form (now network) (crosses form (now network) (now numbers)) 0 (now leaves) × Marked form (now network) (reaches form (now network) (now numbers) k) 0 (now feeds) ⌝ }
     ensures kept { λ r. ⌜ r ≡ count (reaches form (now (network .entry)) (now (numbers .entry)) k) n ⌝ }
     ensures left { λ _. ⌜ Marked form (now (network .entry)) (crosses form (now (network .entry)) (now (numbers .entry))) n (now (leaves .exit)) ⌝ }
     ensures fed { λ _. ⌜ Marked form (now (network .entry)) (reaches form (now (network .entry)) (now (numbers .entry)) k) n (now (feeds .exit)) ⌝ }

@@ -27,9 +27,7 @@ pub fn note_offset(
     i: usize,
 ) -> usize
     requires { ⌜ CheckedNetwork form (now network) × CheckedSheet form (now sheet) ⌝ }
-    requires { ⌜ Noted form (now network) (now sheet) (nodeCount (now network)) (now entries) ⌝ }
-    requires { ⌜ i < nodeCount (now network) ⌝ }
-    requires { ⌜ isOwn form (now network) i ≡ true ⌝ }
+    requires { ⌜ Noted form (now network) (now sheet) (nodeCount (now network)) (now entries) × (i < nodeCount (now network)) × (isOwn form (now network) i ≡ true) ⌝ }
     ensures { λ r. ⌜ (r ≡ noteOffset form (now (entries .entry)) i) × (r + form .route ≤ length (now (sheet .entry))) ⌝ }
 {
     let entry = wide16(entries[i]);
@@ -46,9 +44,7 @@ fn keeps_promise(
     i: usize,
 ) -> bool
     requires { ⌜ CheckedNetwork form (now network) × CheckedSheet form (now sheet) ⌝ }
-    requires { ⌜ Noted form (now network) (now sheet) (nodeCount (now network)) (now entries) ⌝ }
-    requires { ⌜ i < nodeCount (now network) ⌝ }
-    requires { ⌜ Leaving form (now network) (now sheet) (now leaves) ⌝ }
+    requires { ⌜ Noted form (now network) (now sheet) (nodeCount (now network)) (now entries) × (i < nodeCount (now network)) × Leaving form (now network) (now sheet) (now leaves) ⌝ }
     ensures { λ r. ⌜ r ≡ unclashed form (now (network .entry)) (now (sheet .entry)) i ⌝ }
 {
     if !is_own(form, network, i) {
@@ -79,9 +75,7 @@ pub fn first_clash(
     n: usize,
 ) -> usize
     requires { ⌜ CheckedNetwork form (now network) × CheckedSheet form (now sheet) ⌝ }
-    requires { ⌜ Noted form (now network) (now sheet) (nodeCount (now network)) (now entries) ⌝ }
-    requires { ⌜ n ≡ nodeCount (now network) ⌝ }
-    requires { ⌜ Leaving form (now network) (now sheet) (now leaves) ⌝ }
+    requires { ⌜ Noted form (now network) (now sheet) (nodeCount (now network)) (now entries) × (n ≡ nodeCount (now network)) × Leaving form (now network) (now sheet) (now leaves) ⌝ }
     ensures { λ r. ⌜ r ≡ firstBad (unclashed form (now (network .entry)) (now (sheet .entry))) n ⌝ }
 {
     let mut i = 0;

@@ -25,9 +25,7 @@ fn enter_row(
     near: usize,
 ) -> bool
     requires { ⌜ CheckedNetwork form (now network) × CheckedSheet form (now sheet) ⌝ }
-    requires { ⌜ i < nodeCount (now network) ⌝ }
-    requires { ⌜ Noted form (now network) (now sheet) i (now entries) ⌝ }
-    requires { ⌜ Numbered form (now network) (now sheet) i (now numbers) ⌝ }
+    requires { ⌜ (i < nodeCount (now network)) × Noted form (now network) (now sheet) i (now entries) × Numbered form (now network) (now sheet) i (now numbers) ⌝ }
     ensures found { λ r. ⌜ r ≡ entered form (now (network .entry)) (now (sheet .entry)) i ⌝ }
     ensures notes { λ r. ⌜ (r ≡ true → Noted form (now (network .entry)) (now (sheet .entry)) (i + 1) (now (entries .exit))) ⌝ }
     ensures numbered { λ r. ⌜ (r ≡ true → Numbered form (now (network .entry)) (now (sheet .entry)) (i + 1) (now (numbers .exit))) ⌝ }
@@ -55,9 +53,7 @@ pub fn enter(
     n: usize,
 ) -> usize
     requires { ⌜ CheckedNetwork form (now network) × CheckedSheet form (now sheet) ⌝ }
-    requires { ⌜ n ≡ nodeCount (now network) ⌝ }
-    requires { ⌜ Noted form (now network) (now sheet) 0 (now entries) ⌝ }
-    requires { ⌜ Numbered form (now network) (now sheet) 0 (now numbers) ⌝ }
+    requires { ⌜ (n ≡ nodeCount (now network)) × Noted form (now network) (now sheet) 0 (now entries) × Numbered form (now network) (now sheet) 0 (now numbers) ⌝ }
     ensures first { λ r. ⌜ r ≡ firstBad (entered form (now (network .entry)) (now (sheet .entry))) n ⌝ }
     ensures notes { λ r. ⌜ (r ≡ n → Noted form (now (network .entry)) (now (sheet .entry)) n (now (entries .exit))) ⌝ }
     ensures numbered { λ r. ⌜ (r ≡ n → Numbered form (now (network .entry)) (now (sheet .entry)) n (now (numbers .exit))) ⌝ }

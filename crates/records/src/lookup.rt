@@ -17,12 +17,7 @@ use numbers::u16_at;
 
 // The place of an id among n parts of one size behind a base, whose ids rise; n where no part has it.
 fn find(b: &[u8], base: usize, size: usize, n: usize, id: u16) -> usize
-    requires { ⌜ base ≤ 8388608 ⌝ }
-    requires { ⌜ 2 ≤ size ⌝ }
-    requires { ⌜ size ≤ 64 ⌝ }
-    requires { ⌜ n ≤ 65535 ⌝ }
-    requires { ⌜ at base size n ≤ length (now b) ⌝ }
-    requires { ⌜ Rising (idAt (now b) base size) n ⌝ }
+    requires { ⌜ (base ≤ 8388608) × (2 ≤ size) × (size ≤ 64) × (n ≤ 65535) × (at base size n ≤ length (now b)) × Rising (idAt (now b) base size) n ⌝ }
     ensures { λ r. ⌜ r ≡ place (idAt (now (b .entry)) base size) id n ⌝ }
 {
     let mut lo = 0;

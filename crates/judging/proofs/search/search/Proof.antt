@@ -59,7 +59,7 @@ leads-up-to-requires : tie.Need-leads-up-to-requires Inv-loop μ-loop Inv-nodes 
 leads-up-to-requires c κs = search (needs, searching)
 
 with-wire-requires : tie.Need-with-wire-requires Inv-loop μ-loop Inv-nodes μ-nodes
-with-wire-requires c κs = (search-ready _ _ _ _ _ _ (c .before .before .before .before .before .before .before .before .before .before .before .before .before .pre), search-kept _ _ _ _ _ _ (c .before .before .before .before .before .before .before .before .before .before .before .before .before .pre), wiring-there _ _ _ _ _ _ (c .before .before .before .before .before .before .before .before .before .before .before .before .before .pre) _ _ _ _ (c .before .before .loop .inv) _ (c .before .leads-up-to .ensures) (c .if3 .taken))
+with-wire-requires c κs = ((search-ready _ _ _ _ _ _ (c .before .before .before .before .before .before .before .before .before .before .before .before .before .pre), search-kept _ _ _ _ _ _ (c .before .before .before .before .before .before .before .before .before .before .before .before .before .pre)), wiring-there _ _ _ _ _ _ (c .before .before .before .before .before .before .before .before .before .before .before .before .before .pre) _ _ _ _ (c .before .before .loop .inv) _ (c .before .leads-up-to .ensures) (c .if3 .taken))
 
 add-j : tie.Need-add-j Inv-loop μ-loop Inv-nodes μ-nodes
 add-j c = record { fits = omega (arith, wiring-there _ _ _ _ _ _ (c .before .before .before .before .before .before .before .before .before .before .before .before .before .before .pre) _ _ _ _ (c .before .before .before .loop .inv) _ (c .before .before .leads-up-to .ensures) (c .before .if3 .taken), search-few _ _ _ _ _ _ (c .before .before .before .before .before .before .before .before .before .before .before .before .before .before .pre)) }
@@ -71,7 +71,7 @@ loop-again : tie.Need-loop-again Inv-loop μ-loop Inv-nodes μ-nodes
 loop-again c = wiring-next _ _ _ _ _ _ (c .before .before .before .before .before .before .before .before .before .before .before .before .before .before .pre) _ _ _ _ (c .before .before .before .loop .inv) _ (c .before .before .leads-up-to .ensures) (c .before .if3 .taken) _ (c .with-wire .ensures)
 
 held-route-requires : tie.Need-held-route-requires Inv-loop μ-loop Inv-nodes μ-nodes
-held-route-requires c κs = (search-listed _ _ _ _ _ _ (c .before .before .before .before .before .before .before .before .before .before .before .before .before .pre), search-kept _ _ _ _ _ _ (c .before .before .before .before .before .before .before .before .before .before .before .before .before .pre), search-row _ _ _ _ _ _ (c .before .before .before .before .before .before .before .before .before .before .before .before .before .pre) _ _ _ _ (c .before .before .before .before .before .before .before .before .nodes .inv) (c .before .before .before .before .before .before .before .if1 .left), search-own _ _ _ _ _ _ (c .before .before .before .before .before .before .before .before .before .before .before .before .before .pre) _ _ _ _ (c .before .before .before .before .before .before .before .before .nodes .inv) (c .before .before .before .before .before .before .before .if1 .left) _ (c .before .before .before .before .before .before .is-own .ensures) (c .before .before .before .before .before .if2 .left))
+held-route-requires c κs = ((search-listed _ _ _ _ _ _ (c .before .before .before .before .before .before .before .before .before .before .before .before .before .pre), search-kept _ _ _ _ _ _ (c .before .before .before .before .before .before .before .before .before .before .before .before .before .pre)), (search-row _ _ _ _ _ _ (c .before .before .before .before .before .before .before .before .before .before .before .before .before .pre) _ _ _ _ (c .before .before .before .before .before .before .before .before .nodes .inv) (c .before .before .before .before .before .before .before .if1 .left), search-own _ _ _ _ _ _ (c .before .before .before .before .before .before .before .before .before .before .before .before .before .pre) _ _ _ _ (c .before .before .before .before .before .before .before .before .nodes .inv) (c .before .before .before .before .before .before .before .if1 .left) _ (c .before .before .before .before .before .before .is-own .ensures) (c .before .before .before .before .before .if2 .left)))
 
 fault-at-requires : tie.Need-fault-at-requires Inv-loop μ-loop Inv-nodes μ-nodes
 fault-at-requires c κs = search (needs, searching)
