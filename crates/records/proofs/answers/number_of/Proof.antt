@@ -1,167 +1,126 @@
+-- Each case of a refusal has its number by the definition.
 use Rattle.records.proofs.AnswerLaws.{number-is}
 use borrow.Author.Needs.{needs}
 use Rattle.records.proofs.answers.number_of.Statement.{statement}
 use Rattle.records.proofs.answers.number_of.Tie as tie
-use Rattle.records.proofs.answers.number_of.Reads as reads
-use Rattle.records.proofs.answers.number_of.Lts as lts
 
--- src/answers.rt:13:30
 enum-told : tie.Need-enum-told
 enum-told c = search needs
 
--- src/answers.rt:14:29
 enum-told-2 : tie.Need-enum-told-2
 enum-told-2 c = search needs
 
--- src/answers.rt:15:28
 enum-told-3 : tie.Need-enum-told-3
 enum-told-3 c = search needs
 
--- src/answers.rt:16:28
 enum-told-4 : tie.Need-enum-told-4
 enum-told-4 c = search needs
 
--- src/answers.rt:17:31
 enum-told-5 : tie.Need-enum-told-5
 enum-told-5 c = search needs
 
--- src/answers.rt:18:34
 enum-told-6 : tie.Need-enum-told-6
 enum-told-6 c = search needs
 
--- src/answers.rt:19:32
 enum-told-7 : tie.Need-enum-told-7
 enum-told-7 c = search needs
 
--- src/answers.rt:20:30
 enum-told-8 : tie.Need-enum-told-8
 enum-told-8 c = search needs
 
--- src/answers.rt:21:32
 enum-told-9 : tie.Need-enum-told-9
 enum-told-9 c = search needs
 
--- src/answers.rt:22:34
 enum-told-10 : tie.Need-enum-told-10
 enum-told-10 c = search needs
 
--- src/answers.rt:23:37
 enum-told-11 : tie.Need-enum-told-11
 enum-told-11 c = search needs
 
--- src/answers.rt:24:36
 enum-told-12 : tie.Need-enum-told-12
 enum-told-12 c = search needs
 
--- src/answers.rt:25:34
 enum-told-13 : tie.Need-enum-told-13
 enum-told-13 c = search needs
 
--- src/answers.rt:26:35
 enum-told-14 : tie.Need-enum-told-14
 enum-told-14 c = search needs
 
--- src/answers.rt:27:38
 enum-told-15 : tie.Need-enum-told-15
 enum-told-15 c = search needs
 
--- src/answers.rt:28:33
 enum-told-16 : tie.Need-enum-told-16
 enum-told-16 c = search needs
 
--- src/answers.rt:29:32
 enum-told-17 : tie.Need-enum-told-17
 enum-told-17 c = search needs
 
--- src/answers.rt:30:35
 enum-told-18 : tie.Need-enum-told-18
 enum-told-18 c = search needs
 
--- src/answers.rt:31:36
 enum-told-19 : tie.Need-enum-told-19
 enum-told-19 c = search needs
 
--- src/answers.rt:32:31
 enum-told-20 : tie.Need-enum-told-20
 enum-told-20 c = search needs
 
--- src/answers.rt:9:1
 returns : tie.Need-returns
 returns c = search number-is
 
--- src/answers.rt:9:1
 returns-2 : tie.Need-returns-2
 returns-2 c = search number-is
 
--- src/answers.rt:9:1
 returns-3 : tie.Need-returns-3
 returns-3 c = search number-is
 
--- src/answers.rt:9:1
 returns-4 : tie.Need-returns-4
 returns-4 c = search number-is
 
--- src/answers.rt:9:1
 returns-5 : tie.Need-returns-5
 returns-5 c = search number-is
 
--- src/answers.rt:9:1
 returns-6 : tie.Need-returns-6
 returns-6 c = search number-is
 
--- src/answers.rt:9:1
 returns-7 : tie.Need-returns-7
 returns-7 c = search number-is
 
--- src/answers.rt:9:1
 returns-8 : tie.Need-returns-8
 returns-8 c = search number-is
 
--- src/answers.rt:9:1
 returns-9 : tie.Need-returns-9
 returns-9 c = search number-is
 
--- src/answers.rt:9:1
 returns-10 : tie.Need-returns-10
 returns-10 c = search number-is
 
--- src/answers.rt:9:1
 returns-11 : tie.Need-returns-11
 returns-11 c = search number-is
 
--- src/answers.rt:9:1
 returns-12 : tie.Need-returns-12
 returns-12 c = search number-is
 
--- src/answers.rt:9:1
 returns-13 : tie.Need-returns-13
 returns-13 c = search number-is
 
--- src/answers.rt:9:1
 returns-14 : tie.Need-returns-14
 returns-14 c = search number-is
 
--- src/answers.rt:9:1
 returns-15 : tie.Need-returns-15
 returns-15 c = search number-is
 
--- src/answers.rt:9:1
 returns-16 : tie.Need-returns-16
 returns-16 c = search number-is
 
--- src/answers.rt:9:1
 returns-17 : tie.Need-returns-17
 returns-17 c = search number-is
 
--- src/answers.rt:9:1
 returns-18 : tie.Need-returns-18
 returns-18 c = search number-is
 
--- src/answers.rt:9:1
 returns-19 : tie.Need-returns-19
 returns-19 c = search number-is
 
--- src/answers.rt:9:1
 returns-20 : tie.Need-returns-20
 returns-20 c = search number-is
 

@@ -1,3 +1,4 @@
+-- Before the j-th turn every edge before it is well formed, and the rows that they leave are marked (Edging).
 use Rattle.records.proofs.LeftLaws.{key-none}
 use Rattle.records.proofs.LeftLaws.{edging-bad, edging-bad-marks}
 use Rattle.records.proofs.LeftLaws.{Edging, edging, edging-start, edging-fits}
@@ -5,10 +6,6 @@ use Prim.Native.Nat.{_-_}
 use borrow.Author.Needs.{needs}
 use Rattle.records.proofs.edges.bad_edge.Statement.{statement}
 use Rattle.records.proofs.edges.bad_edge.Tie as tie
-use Rattle.records.proofs.edges.bad_edge.Reads as reads
-use Rattle.records.proofs.edges.bad_edge.Lts as lts
-use Rattle.records.proofs.edges.read_edge.Reads as read-edge-reads
-use Rattle.records.proofs.layout.edge_offset.Reads as edge-offset-reads
 
 abbrev Inv-loop : tie.InvT-loop
 Inv-loop form b rows left₀ n j₀ o₀ low₀ left j o low = Edging form b n j o low left
@@ -16,39 +13,30 @@ Inv-loop form b rows left₀ n j₀ o₀ low₀ left j o low = Edging form b n j
 abbrev μ-loop : tie.MeasureT-loop
 μ-loop form b rows left₀ n j₀ o₀ low₀ left j o low = n - j
 
--- src/edges.rt:98:9
 edge-offset-requires : tie.Need-edge-offset-requires Inv-loop μ-loop
 edge-offset-requires c κs = search needs
 
--- src/edges.rt:100:5
 loop-holds : tie.Need-loop-holds Inv-loop μ-loop
 loop-holds c = search edging-start
 
--- src/edges.rt:101:9
 read-edge-requires : tie.Need-read-edge-requires Inv-loop μ-loop
 read-edge-requires c κs = search (needs, edging)
 
--- src/edges.rt:103:13
 returns : tie.Need-returns Inv-loop μ-loop
 returns c = let e = key-none _ _ _ _ (c .before .read-edge .ensures .0) (c .if1 .taken) in (search edging-bad, search edging-bad-marks)
 
--- src/edges.rt:105:9
 add-o : tie.Need-add-o Inv-loop μ-loop
 add-o c = search edging-fits
 
--- src/edges.rt:106:9
 add-j : tie.Need-add-j Inv-loop μ-loop
 add-j c = search needs
 
--- src/edges.rt:100:5
 loop-less : tie.Need-loop-less Inv-loop μ-loop
 loop-less c = search needs
 
--- src/edges.rt:100:5
 loop-again : tie.Need-loop-again Inv-loop μ-loop
 loop-again c = search edging
 
--- src/edges.rt:92:1
 returns-2 : tie.Need-returns-2 Inv-loop μ-loop
 returns-2 c = (search edging, search edging)
 

@@ -1,14 +1,9 @@
+-- Before the i-th turn every entry before it is well formed, and the least id that may come is known (Entering).
 use Rattle.records.proofs.EntryLaws.{Entering, entering, entry-rooms}
 use Prim.Native.Nat.{_-_}
-use Rattle.records.proofs.entries.fragment_formed.Reads as fragment-formed-reads
-use Rattle.routes.proofs.route_formed.Reads as route-formed-reads
 use borrow.Author.Needs.{needs}
 use Rattle.records.proofs.entries.bad_entry.Statement.{statement}
 use Rattle.records.proofs.entries.bad_entry.Tie as tie
-use Rattle.records.proofs.entries.bad_entry.Reads as reads
-use Rattle.records.proofs.entries.bad_entry.Lts as lts
-use Rattle.numbers.proofs.u16_at.Reads as u16-at-reads
-use Rattle.records.proofs.entries.entry_formed.Reads as entry-formed-reads
 
 abbrev Inv-loop : tie.InvT-loop
 Inv-loop form lead b n size i₀ o₀ least₀ i o least = Entering form lead b n i o least

@@ -1,23 +1,18 @@
+-- A sheet's entry has a fragment number up to 63; a list's has none.
 use Rattle.records.proofs.EntryLaws.{fragments}
 use borrow.Author.Needs.{needs}
 use Rattle.records.proofs.entries.fragment_formed.Statement.{statement}
 use Rattle.records.proofs.entries.fragment_formed.Tie as tie
-use Rattle.records.proofs.entries.fragment_formed.Reads as reads
-use Rattle.records.proofs.entries.fragment_formed.Lts as lts
 
--- src/entries.rt:24:16
 add-result : tie.Need-add-result
 add-result c = search needs
 
--- src/entries.rt:24:14
 shared-slice-read-result : tie.Need-shared-slice-read-result
 shared-slice-read-result c = search needs
 
--- src/entries.rt:19:1
 returns : tie.Need-returns
 returns c = search fragments
 
--- src/entries.rt:19:1
 returns-2 : tie.Need-returns-2
 returns-2 c = search fragments
 

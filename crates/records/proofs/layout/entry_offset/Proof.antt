@@ -1,20 +1,15 @@
+-- The entries begin at 7, each as wide as its lead and its route.
 use Rattle.records.proofs.LayoutLaws.{entry-offset}
 use borrow.Author.Needs.{needs}
 use Rattle.records.proofs.layout.entry_offset.Statement.{statement}
 use Rattle.records.proofs.layout.entry_offset.Tie as tie
-use Rattle.records.proofs.layout.entry_offset.Reads as reads
-use Rattle.records.proofs.layout.entry_offset.Lts as lts
-use Rattle.records.proofs.layout.stride.Reads as stride-reads
 
--- src/layout.rt:25:15
 add-stride : tie.Need-add-stride
 add-stride c = search needs
 
--- src/layout.rt:25:5
 stride-requires : tie.Need-stride-requires
 stride-requires c κs = search needs
 
--- src/layout.rt:21:1
 returns : tie.Need-returns
 returns c = search entry-offset
 

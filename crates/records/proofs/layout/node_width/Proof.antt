@@ -1,19 +1,15 @@
+-- Nine bytes and two routes.
 use Rattle.records.proofs.LayoutLaws.{node-width}
 use borrow.Author.Needs.{needs}
 use Rattle.records.proofs.layout.node_width.Statement.{statement}
 use Rattle.records.proofs.layout.node_width.Tie as tie
-use Rattle.records.proofs.layout.node_width.Reads as reads
-use Rattle.records.proofs.layout.node_width.Lts as lts
 
--- src/layout.rt:63:5
 add-result : tie.Need-add-result
 add-result c = search needs
 
--- src/layout.rt:63:5
 add-result-2 : tie.Need-add-result-2
 add-result-2 c = search needs
 
--- src/layout.rt:59:1
 returns : tie.Need-returns
 returns c = (search node-width, search needs, search needs)
 

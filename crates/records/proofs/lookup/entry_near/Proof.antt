@@ -3,45 +3,31 @@ use Rattle.records.proofs.LookupLaws.{near-room, near-found}
 use borrow.Author.Needs.{needs}
 use Rattle.records.proofs.lookup.entry_near.Statement.{statement}
 use Rattle.records.proofs.lookup.entry_near.Tie as tie
-use Rattle.records.proofs.lookup.entry_near.Reads as reads
-use Rattle.records.proofs.lookup.entry_near.Lts as lts
-use Rattle.numbers.proofs.u16_at.Reads as u16-at-reads
-use Rattle.records.proofs.layout.entry_offset.Reads as entry-offset-reads
-use Rattle.records.proofs.lookup.entry_of.Reads as entry-of-reads
 
--- src/lookup.rt:61:8
 u16-at-requires : tie.Need-u16-at-requires
 u16-at-requires c κs = search needs
 
--- src/lookup.rt:61:8
 cast-if1 : tie.Need-cast-if1
 cast-if1 c = search needs
 
--- src/lookup.rt:62:9
 entry-of-requires : tie.Need-entry-of-requires
 entry-of-requires c κs = search needs
 
--- src/lookup.rt:62:9
 returns : tie.Need-returns
 returns c = search needs
 
--- src/lookup.rt:64:18
 entry-offset-requires : tie.Need-entry-offset-requires
 entry-offset-requires c κs = search needs
 
--- src/lookup.rt:64:8
 u16-at-requires-2 : tie.Need-u16-at-requires-2
 u16-at-requires-2 c κs = search near-room
 
--- src/lookup.rt:65:9
 entry-of-requires-2 : tie.Need-entry-of-requires-2
 entry-of-requires-2 c κs = search needs
 
--- src/lookup.rt:65:9
 returns-2 : tie.Need-returns-2
 returns-2 c = search needs
 
--- src/lookup.rt:57:1
 returns-3 : tie.Need-returns-3
 returns-3 c = search near-found
 

@@ -1,29 +1,22 @@
+-- One law for each of 1 and 2, and one for the rows below.
 use Rattle.records.proofs.NetworkRefusals.{network}
 use mathlib.Core.Path.{refl}
 use borrow.Author.Needs.{needs}
 use Rattle.records.proofs.network.check_network_rows.Statement.{statement}
 use Rattle.records.proofs.network.check_network_rows.Tie as tie
-use Rattle.records.proofs.network.check_network_rows.Reads as reads
-use Rattle.records.proofs.network.check_network_rows.Lts as lts
-use Rattle.records.proofs.network.check_counts.Reads as check-counts-reads
 
--- src/network.rt:111:9
 returns : tie.Need-returns
 returns c = (search network, refl)
 
--- src/network.rt:113:11
 shared-slice-read-match : tie.Need-shared-slice-read-match
 shared-slice-read-match c = search needs
 
--- src/network.rt:114:14
 check-counts-requires : tie.Need-check-counts-requires
 check-counts-requires c κs = search needs
 
--- src/network.rt:105:1
 returns-2 : tie.Need-returns-2
 returns-2 c = (search network, search needs)
 
--- src/network.rt:105:1
 returns-3 : tie.Need-returns-3
 returns-3 c = (search network, refl)
 

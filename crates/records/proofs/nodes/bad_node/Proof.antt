@@ -1,14 +1,9 @@
+-- Before the i-th turn every node before it is well formed, and the least id that may come is known (Noding).
 use Rattle.records.proofs.NodeLaws.{Noding, noding, node-rooms}
 use Prim.Native.Nat.{_-_}
 use borrow.Author.Needs.{needs}
 use Rattle.records.proofs.nodes.bad_node.Statement.{statement}
 use Rattle.records.proofs.nodes.bad_node.Tie as tie
-use Rattle.records.proofs.nodes.bad_node.Reads as reads
-use Rattle.records.proofs.nodes.bad_node.Lts as lts
-use Rattle.numbers.proofs.u16_at.Reads as u16-at-reads
-use Rattle.records.proofs.layout.node_part.Reads as node-part-reads
-use Rattle.records.proofs.layout.node_width.Reads as node-width-reads
-use Rattle.records.proofs.nodes.node_formed.Reads as node-formed-reads
 
 abbrev Inv-loop : tie.InvT-loop
 Inv-loop form b n size i₀ o₀ least₀ i o least = Noding form b n i o least
@@ -16,59 +11,45 @@ Inv-loop form b n size i₀ o₀ least₀ i o least = Noding form b n i o least
 abbrev μ-loop : tie.MeasureT-loop
 μ-loop form b n size i₀ o₀ least₀ i o least = n - i
 
--- src/nodes.rt:81:9
 node-width-requires : tie.Need-node-width-requires Inv-loop μ-loop
 node-width-requires c κs = search needs
 
--- src/nodes.rt:83:9
 node-part-requires : tie.Need-node-part-requires Inv-loop μ-loop
 node-part-requires c κs = search needs
 
--- src/nodes.rt:85:5
 loop-holds : tie.Need-loop-holds Inv-loop μ-loop
 loop-holds c = search noding
 
--- src/nodes.rt:86:18
 u16-at-requires : tie.Need-u16-at-requires Inv-loop μ-loop
 u16-at-requires c κs = search node-rooms
 
--- src/nodes.rt:86:18
 cast-id : tie.Need-cast-id Inv-loop μ-loop
 cast-id c = search needs
 
--- src/nodes.rt:88:13
 returns : tie.Need-returns Inv-loop μ-loop
 returns c = search noding
 
--- src/nodes.rt:90:13
 node-formed-requires : tie.Need-node-formed-requires Inv-loop μ-loop
 node-formed-requires c κs = search (needs, node-rooms)
 
--- src/nodes.rt:91:13
 returns-2 : tie.Need-returns-2 Inv-loop μ-loop
 returns-2 c = search noding
 
--- src/nodes.rt:93:17
 add-least : tie.Need-add-least Inv-loop μ-loop
 add-least c = search needs
 
--- src/nodes.rt:94:9
 add-o : tie.Need-add-o Inv-loop μ-loop
 add-o c = search node-rooms
 
--- src/nodes.rt:95:9
 add-i : tie.Need-add-i Inv-loop μ-loop
 add-i c = search needs
 
--- src/nodes.rt:85:5
 loop-less : tie.Need-loop-less Inv-loop μ-loop
 loop-less c = search needs
 
--- src/nodes.rt:85:5
 loop-again : tie.Need-loop-again Inv-loop μ-loop
 loop-again c = search noding
 
--- src/nodes.rt:77:1
 returns-3 : tie.Need-returns-3 Inv-loop μ-loop
 returns-3 c = search noding
 

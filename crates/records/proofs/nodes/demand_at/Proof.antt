@@ -1,68 +1,51 @@
+-- One law for each arm of the match on the demand's byte.
 use Rattle.records.proofs.NodeLaws.{asked}
 use borrow.Author.Needs.{needs}
 use Rattle.records.proofs.nodes.demand_at.Statement.{statement}
 use Rattle.records.proofs.nodes.demand_at.Tie as tie
-use Rattle.records.proofs.nodes.demand_at.Reads as reads
-use Rattle.records.proofs.nodes.demand_at.Lts as lts
-use Rattle.numbers.proofs.u16_at.Reads as u16-at-reads
 
--- src/nodes.rt:142:13
 add-match : tie.Need-add-match
 add-match c = search needs
 
--- src/nodes.rt:142:13
 add-match-2 : tie.Need-add-match-2
 add-match-2 c = search needs
 
--- src/nodes.rt:142:13
 add-match-3 : tie.Need-add-match-3
 add-match-3 c = search needs
 
--- src/nodes.rt:142:11
 shared-slice-read-match : tie.Need-shared-slice-read-match
 shared-slice-read-match c = search needs
 
--- src/nodes.rt:145:32
 add-u16-at : tie.Need-add-u16-at
 add-u16-at c = search needs
 
--- src/nodes.rt:145:32
 add-u16-at-2 : tie.Need-add-u16-at-2
 add-u16-at-2 c = search needs
 
--- src/nodes.rt:145:32
 add-u16-at-3 : tie.Need-add-u16-at-3
 add-u16-at-3 c = search needs
 
--- src/nodes.rt:145:22
 u16-at-requires : tie.Need-u16-at-requires
 u16-at-requires c κs = search needs
 
--- src/nodes.rt:146:29
 add-u16-at-4 : tie.Need-add-u16-at-4
 add-u16-at-4 c = search needs
 
--- src/nodes.rt:146:29
 add-u16-at-5 : tie.Need-add-u16-at-5
 add-u16-at-5 c = search needs
 
--- src/nodes.rt:146:29
 add-u16-at-6 : tie.Need-add-u16-at-6
 add-u16-at-6 c = search needs
 
--- src/nodes.rt:146:19
 u16-at-requires-2 : tie.Need-u16-at-requires-2
 u16-at-requires-2 c κs = search needs
 
--- src/nodes.rt:138:1
 returns : tie.Need-returns
 returns c = search asked
 
--- src/nodes.rt:138:1
 returns-2 : tie.Need-returns-2
 returns-2 c = search asked
 
--- src/nodes.rt:138:1
 returns-3 : tie.Need-returns-3
 returns-3 c = search asked
 

@@ -1,21 +1,15 @@
+-- The kind is read at the node's offset.
 use Rattle.records.proofs.RowLaws.{node-reads}
 use borrow.Author.Needs.{needs}
 use Rattle.records.proofs.nodes.is_own.Statement.{statement}
 use Rattle.records.proofs.nodes.is_own.Tie as tie
-use Rattle.records.proofs.nodes.is_own.Reads as reads
-use Rattle.records.proofs.nodes.is_own.Lts as lts
-use Rattle.records.proofs.layout.node_offset.Reads as node-offset-reads
-use Rattle.records.proofs.nodes.own_at.Reads as own-at-reads
 
--- src/nodes.rt:123:15
 node-offset-requires : tie.Need-node-offset-requires
 node-offset-requires c κs = search needs
 
--- src/nodes.rt:123:5
 own-at-requires : tie.Need-own-at-requires
 own-at-requires c κs = search node-reads
 
--- src/nodes.rt:119:1
 returns : tie.Need-returns
 returns c = search node-reads
 

@@ -1,59 +1,45 @@
+-- One law for each arm of the match on the kind's byte.
 use Rattle.records.proofs.NodeLaws.{kinds}
 use borrow.Author.Needs.{needs}
 use Rattle.records.proofs.nodes.kind_formed.Statement.{statement}
 use Rattle.records.proofs.nodes.kind_formed.Tie as tie
-use Rattle.records.proofs.nodes.kind_formed.Reads as reads
-use Rattle.records.proofs.nodes.kind_formed.Lts as lts
 
--- src/nodes.rt:20:13
 add-match : tie.Need-add-match
 add-match c = search needs
 
--- src/nodes.rt:20:11
 shared-slice-read-match : tie.Need-shared-slice-read-match
 shared-slice-read-match c = search needs
 
--- src/nodes.rt:22:22
 add-match2 : tie.Need-add-match2
 add-match2 c = search needs
 
--- src/nodes.rt:22:22
 add-match2-2 : tie.Need-add-match2-2
 add-match2-2 c = search needs
 
--- src/nodes.rt:22:20
 shared-slice-read-match2 : tie.Need-shared-slice-read-match2
 shared-slice-read-match2 c = search needs
 
--- src/nodes.rt:23:20
 add-result : tie.Need-add-result
 add-result c = search needs
 
--- src/nodes.rt:23:20
 add-result-2 : tie.Need-add-result-2
 add-result-2 c = search needs
 
--- src/nodes.rt:23:20
 add-result-3 : tie.Need-add-result-3
 add-result-3 c = search needs
 
--- src/nodes.rt:23:18
 shared-slice-read-result : tie.Need-shared-slice-read-result
 shared-slice-read-result c = search needs
 
--- src/nodes.rt:16:1
 returns : tie.Need-returns
 returns c = search kinds
 
--- src/nodes.rt:16:1
 returns-2 : tie.Need-returns-2
 returns-2 c = search kinds
 
--- src/nodes.rt:16:1
 returns-3 : tie.Need-returns-3
 returns-3 c = search kinds
 
--- src/nodes.rt:16:1
 returns-4 : tie.Need-returns-4
 returns-4 c = search kinds
 

@@ -1,11 +1,9 @@
+-- Before the i-th turn no node before it is an own one (Ownless).
 use Rattle.records.proofs.RowLaws.{Ownless, owns}
 use Prim.Native.Nat.{_-_}
 use borrow.Author.Needs.{needs}
 use Rattle.records.proofs.nodes.no_own.Statement.{statement}
 use Rattle.records.proofs.nodes.no_own.Tie as tie
-use Rattle.records.proofs.nodes.no_own.Reads as reads
-use Rattle.records.proofs.nodes.no_own.Lts as lts
-use Rattle.records.proofs.nodes.is_own.Reads as is-own-reads
 
 abbrev Inv-loop : tie.InvT-loop
 Inv-loop form b n i₀ i = Ownless form b i
@@ -13,31 +11,24 @@ Inv-loop form b n i₀ i = Ownless form b i
 abbrev μ-loop : tie.MeasureT-loop
 μ-loop form b n i₀ i = n - i
 
--- src/nodes.rt:122:5
 loop-holds : tie.Need-loop-holds Inv-loop μ-loop
 loop-holds c = search owns
 
--- src/nodes.rt:123:12
 is-own-requires : tie.Need-is-own-requires Inv-loop μ-loop
 is-own-requires c κs = search needs
 
--- src/nodes.rt:124:13
 returns : tie.Need-returns Inv-loop μ-loop
 returns c = search owns
 
--- src/nodes.rt:126:9
 add-i : tie.Need-add-i Inv-loop μ-loop
 add-i c = search needs
 
--- src/nodes.rt:122:5
 loop-less : tie.Need-loop-less Inv-loop μ-loop
 loop-less c = search needs
 
--- src/nodes.rt:122:5
 loop-again : tie.Need-loop-again Inv-loop μ-loop
 loop-again c = search owns
 
--- src/nodes.rt:117:1
 returns-2 : tie.Need-returns-2 Inv-loop μ-loop
 returns-2 c = search owns
 

@@ -1,23 +1,18 @@
+-- One law for each arm of the match on the kind's byte.
 use Rattle.records.proofs.NodeLaws.{owning}
 use borrow.Author.Needs.{needs}
 use Rattle.records.proofs.nodes.own_at.Statement.{statement}
 use Rattle.records.proofs.nodes.own_at.Tie as tie
-use Rattle.records.proofs.nodes.own_at.Reads as reads
-use Rattle.records.proofs.nodes.own_at.Lts as lts
 
--- src/nodes.rt:112:13
 add-match : tie.Need-add-match
 add-match c = search needs
 
--- src/nodes.rt:112:11
 shared-slice-read-match : tie.Need-shared-slice-read-match
 shared-slice-read-match c = search needs
 
--- src/nodes.rt:108:1
 returns : tie.Need-returns
 returns c = search owning
 
--- src/nodes.rt:108:1
 returns-2 : tie.Need-returns-2
 returns-2 c = search owning
 

@@ -1,11 +1,9 @@
+-- Before the i-th turn every policy before it is well formed (Policies).
 use Rattle.records.proofs.PolicyLaws.{Policies, policies, policy-rooms}
 use Prim.Native.Nat.{_-_}
 use borrow.Author.Needs.{needs}
 use Rattle.records.proofs.policies.bad_policy.Statement.{statement}
 use Rattle.records.proofs.policies.bad_policy.Tie as tie
-use Rattle.records.proofs.policies.bad_policy.Reads as reads
-use Rattle.records.proofs.policies.bad_policy.Lts as lts
-use Rattle.routes.proofs.policy_formed.Reads as policy-formed-reads
 
 abbrev Inv-loop : tie.InvT-loop
 Inv-loop b n i₀ o₀ i o = Policies b n i o
@@ -13,35 +11,27 @@ Inv-loop b n i₀ o₀ i o = Policies b n i o
 abbrev μ-loop : tie.MeasureT-loop
 μ-loop b n i₀ o₀ i o = n - i
 
--- src/policies.rt:17:5
 loop-holds : tie.Need-loop-holds Inv-loop μ-loop
 loop-holds c = search policies
 
--- src/policies.rt:18:13
 policy-formed-requires : tie.Need-policy-formed-requires Inv-loop μ-loop
 policy-formed-requires c κs = search policy-rooms
 
--- src/policies.rt:19:13
 returns : tie.Need-returns Inv-loop μ-loop
 returns c = search policies
 
--- src/policies.rt:21:9
 add-o : tie.Need-add-o Inv-loop μ-loop
 add-o c = search policy-rooms
 
--- src/policies.rt:22:9
 add-i : tie.Need-add-i Inv-loop μ-loop
 add-i c = search needs
 
--- src/policies.rt:17:5
 loop-less : tie.Need-loop-less Inv-loop μ-loop
 loop-less c = search needs
 
--- src/policies.rt:17:5
 loop-again : tie.Need-loop-again Inv-loop μ-loop
 loop-again c = search policies
 
--- src/policies.rt:11:1
 returns-2 : tie.Need-returns-2 Inv-loop μ-loop
 returns-2 c = search policies
 

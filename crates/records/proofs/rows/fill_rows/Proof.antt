@@ -1,11 +1,8 @@
+-- Before a turn the rows from i on are entered, and of two with one id the first stays (Filling).
 use Rattle.records.proofs.RowLaws.{Filling, filling}
 use borrow.Author.Needs.{needs}
 use Rattle.records.proofs.rows.fill_rows.Statement.{statement}
 use Rattle.records.proofs.rows.fill_rows.Tie as tie
-use Rattle.records.proofs.rows.fill_rows.Reads as reads
-use Rattle.records.proofs.rows.fill_rows.Lts as lts
-use Rattle.numbers.proofs.u16_at.Reads as u16-at-reads
-use Rattle.records.proofs.nodes.node_id.Reads as node-id-reads
 
 abbrev Inv-loop : tie.InvT-loop
 Inv-loop form b rows₀ i₀ rows i = Filling form b i rows
@@ -13,55 +10,42 @@ Inv-loop form b rows₀ i₀ rows i = Filling form b i rows
 abbrev μ-loop : tie.MeasureT-loop
 μ-loop form b rows₀ i₀ rows i = i
 
--- src/rows.rt:24:17
 u16-at-requires : tie.Need-u16-at-requires Inv-loop μ-loop
 u16-at-requires c κs = search needs
 
--- src/rows.rt:24:17
 cast-i : tie.Need-cast-i Inv-loop μ-loop
 cast-i c = search needs
 
--- src/rows.rt:25:5
 loop-holds : tie.Need-loop-holds Inv-loop μ-loop
 loop-holds c = search filling
 
--- src/rows.rt:26:35
 sub-node-id : tie.Need-sub-node-id Inv-loop μ-loop
 sub-node-id c = search needs
 
--- src/rows.rt:26:18
 node-id-requires : tie.Need-node-id-requires Inv-loop μ-loop
 node-id-requires c κs = search (needs, filling)
 
--- src/rows.rt:26:18
 cast-id : tie.Need-cast-id Inv-loop μ-loop
 cast-id c = search needs
 
--- src/rows.rt:27:20
 cast-rows : tie.Need-cast-rows Inv-loop μ-loop
 cast-rows c = search filling
 
--- src/rows.rt:27:9
 mul-rows : tie.Need-mul-rows Inv-loop μ-loop
 mul-rows c = search needs
 
--- src/rows.rt:27:9
 element-write-rows : tie.Need-element-write-rows Inv-loop μ-loop
 element-write-rows c = search needs
 
--- src/rows.rt:28:9
 sub-i : tie.Need-sub-i Inv-loop μ-loop
 sub-i c = search needs
 
--- src/rows.rt:25:5
 loop-less : tie.Need-loop-less Inv-loop μ-loop
 loop-less c = search needs
 
--- src/rows.rt:25:5
 loop-again : tie.Need-loop-again Inv-loop μ-loop
 loop-again c = search filling
 
--- src/rows.rt:19:1
 returns : tie.Need-returns Inv-loop μ-loop
 returns c = search filling
 
