@@ -1,3 +1,4 @@
+-- The refusals and the answer of the cutter as the code goes, and what the program writes.
 pub mod AnswerLaws
 pub mod CheckLaws
 pub mod RefusalLaws

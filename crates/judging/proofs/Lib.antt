@@ -5,6 +5,7 @@ pub mod BoxLaws
 pub mod PlaceLaws
 pub mod KeepLaws
 pub mod WalkLaws
+pub mod LeftLaws
 pub mod SearchLaws
 pub mod EntryLaws
 pub mod NeighbourLaws

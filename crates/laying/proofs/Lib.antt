@@ -1,3 +1,4 @@
+-- What the writers lay down, row by row, part by part and whole.
 pub mod StoreLaws
 pub mod RowBytes
 pub mod PutLaws

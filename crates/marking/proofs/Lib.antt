@@ -1,3 +1,4 @@
+-- What the tables, the marks and the parts of rows say, as the code fills them.
 pub mod Said
 pub mod TableLaws
 pub mod MarkLaws

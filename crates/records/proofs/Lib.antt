@@ -1,3 +1,4 @@
+-- The laws that the checks and the lookups are proved by, file by file as the code goes.
 pub mod LayoutLaws
 pub mod NodeLaws
 pub mod PolicyLaws
