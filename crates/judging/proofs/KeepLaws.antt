@@ -83,10 +83,10 @@ module _ (f : Form) (network list : List ℕ) (h : Listed f network list) (i : �
   rises : Rising (nodeId f network) (nodeCount network)
   rises = ids-rise f network (nodeCount network) (h .sound .nodes)
 
-  same-row : rowOf f network (nodeId f network i) ≡ i
+  pub same-row : rowOf f network (nodeId f network i) ≡ i
   same-row = row-is f network (nodeId f network i) i rises l refl
 
-  there-boxed : boxed f network (nodeId f network i) ≡ true
+  pub there-boxed : boxed f network (nodeId f network i) ≡ true
   there-boxed = row-boxed f network (nodeId f network i) i rises l refl
 
   pub there-length : (there fields : List ℕ) → Kept f network list there fields i → length there ≡ 1024

@@ -1,9 +1,9 @@
 -- What the two records say at the places that the search looks at, and what the program prints.
 pub mod Said
-pub mod SenderLaws
 pub mod BoxLaws
 pub mod PlaceLaws
 pub mod KeepLaws
+pub mod SenderLaws
 pub mod WalkLaws
 pub mod LeftLaws
 pub mod SearchLaws

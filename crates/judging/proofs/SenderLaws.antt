@@ -1,5 +1,5 @@
 -- The readers of boxes and wires, as the code goes: the room that they touch, and what they answer.
-use mathlib.Core.Path.{_≡_, refl, sym, ap, ap₂, _∙_}
+use mathlib.Core.Path.{_≡_, sym, ap, ap₂, _∙_}
 use mathlib.Core.Bool.{true}
 use mathlib.Core.List.{List}
 use Prim.Native.Nat.{ℕ, _+_, _-_, _^_, _≤_, _<_}
@@ -8,7 +8,6 @@ use lib.ListN.{length, getD}
 use mir.Syntax.{w64}
 use mir.Val.{Fits}
 use borrow.Author.Tests.{ltb-true}
-use Rattle.lists.specs.Rising.{Rising}
 use Rattle.numbers.specs.BigEndian.{u16At}
 use Rattle.routes.specs.Carry.{carried}
 use Rattle.routes.specs.Form.{routeAt, policyAt}
@@ -23,7 +22,7 @@ use Rattle.records.specs.Layout.{Room, nodeCount, edgeCount, nodeOffset, policy
 use Rattle.records.specs.Node.{nodeId, rowOf, isOwn}
 use Rattle.records.specs.Offsets.{node-fields-room, edge-room, policy-room, fine-room}
 use Rattle.records.specs.Rows.{Filled, rowMark}
-use Rattle.records.specs.RowLaws.{ids-rise, row-is, row-boxed, row-found}
+use Rattle.records.specs.RowLaws.{row-found}
 use Rattle.records.specs.declared.Form.{Form}
 use Rattle.reading.specs.Whole.{readNetwork, readList}
 use Rattle.reading.specs.Parts.{wireAt}
@@ -31,6 +30,7 @@ use Rattle.reading.proofs.Said.{Edge, edge-parts}
 use Rattle.judging.specs.Judging.{highest}
 use Rattle.judging.specs.Offer.{offerAt}
 use Rattle.judging.specs.Ready.{Listed, Ready, Kept}
+use Rattle.judging.proofs.KeepLaws.{keep-row, same-row, there-boxed}
 use Rattle.judging.proofs.Said.{mapping-own, trans-at}
 
 -- a node's route
@@ -48,21 +48,15 @@ pub ruleset node-routes = (node-route-wide, node-route-room, node-route-is)
 
 -- what the tables say of the node in a row
 module _ (f : Form) (network list there fields : List ℕ) (h : Listed f network list) (k : Kept f network list there fields (nodeCount network)) (row : ℕ) (l : row < nodeCount network) where
-  pub kept-row : row < 1024
-  kept-row = let u = h .usable .few in let n = h .sound .few-nodes in omega arith
-
-  rises : Rising (nodeId f network) (nodeCount network)
-  rises = ids-rise f network (nodeCount network) (h .sound .nodes)
-
   -- an own box holds its listed route
   pub held-is : (r : Route) → isOwn f network row ≡ true → r ≡ routeIn (getD there row 0) (getD fields row 0) → r ≡ held (house highest) (readList f list) (nodeId f network row)
   held-is r q e =
-      let own : isOwn f network (rowOf f network (nodeId f network row)) ≡ true = rw (row-is f network (nodeId f network row) row rises l refl) q in
+      let own : isOwn f network (rowOf f network (nodeId f network row)) ≡ true = rw (same-row f network list h row l) q in
       e ∙ k .route row l
-      ∙ mapping-own f network list (nodeId f network row) (row-boxed f network (nodeId f network row) row rises l refl) own
-      ∙ ap (λ (i : ℕ). held (house highest) (readList f list) (nodeId f network i)) (row-is f network (nodeId f network row) row rises l refl)
+      ∙ mapping-own f network list (nodeId f network row) (there-boxed f network list h row l) own
+      ∙ ap (λ (i : ℕ). held (house highest) (readList f list) (nodeId f network i)) (same-row f network list h row l)
 
-pub ruleset held-routes = (kept-row, held-is)
+pub ruleset held-routes = (keep-row, held-is)
 
 -- the row of the box with an id
 module _ (f : Form) (network list rows : List ℕ) (h : Ready f network list rows) (id : ℕ) (q : boxed f network id ≡ true) (small : id < 65536) (m : ℕ) (e : m ≡ getD rows id 0) where
@@ -81,7 +75,7 @@ module _ (f : Form) (network list rows : List ℕ) (h : Ready f network list row
   row-there = let l = ltb-true (rowOf f network id) (nodeCount network) q in omega (arith, marked)
 
   pub row-few : m - 1 < 1024
-  row-few = let u = h .listed .usable .few in let n = h .listed .sound .few-nodes in omega (arith, row-there)
+  row-few = keep-row f network list (h .listed) (m - 1) row-there
 
   pub sender-room : Room f network
   sender-room = fine-room f network (h .listed .usable) (h .listed .sound)

@@ -1,7 +1,7 @@
 // What programs in other languages link: the check, the judge and the cutter, from bytes to bytes.
 //
 // The archive that `rt staticlib library` writes has the functions below under their own names, by C's calling convention;
-// a slice is handed over as a pointer and a length (include/lnianotka.h). No function has a `requires`: a caller in
+// a slice is handed over as a pointer and a length (c/lnianotka.h). No function has a `requires`: a caller in
 // another language owes no more than what the types say.
 ghost use mathlib.Core.Path.{_≡_};
 ghost use lib.ListN.{length};

@@ -6,6 +6,7 @@ use native.Mathlib.Omega.{arith}
 use lib.ListN.{getD}
 use borrow.Author.Tests.{eq-eqb, ne-eqb}
 use Rattle.lists.specs.Codec.{Bytes}
+use Rattle.numbers.proofs.Codecs.{u16-below}
 use Rattle.numbers.specs.BigEndian.{u16At, u32At}
 use Rattle.routes.specs.Form.{fieldsAt, routeAt}
 use Rattle.routes.specs.Packed.{packedAt, fieldsIn, routeIn}
@@ -37,15 +38,11 @@ out p c o t hc ho ht = λ i. record {
     fourth = omega arith
 
 module _ (b : List ℕ) (small : Bytes b) where
-  two-bytes : (o : ℕ) → u16At b o < 65536
-  unfolding u16At
-  two-bytes o = omega (arith, small o, small (o + 1))
-
   fields-out : (o : ℕ) → fieldsIn (u32At b o * 4294967296 + u32At b (o + 4)) ≡ fieldsAt b o
   unfolding u32At fieldsAt
   fields-out o =
       let last : o + 4 + 2 ≡ o + 6 = omega arith in
-      rw last (out (u16At b o) (u16At b (o + 2)) (u16At b (o + 4)) (u16At b (o + 6)) (two-bytes (o + 2)) (two-bytes (o + 4)) (two-bytes (o + 6)))
+      rw last (out (u16At b o) (u16At b (o + 2)) (u16At b (o + 4)) (u16At b (o + 6)) (u16-below b (o + 2) (small _, small _)) (u16-below b (o + 4) (small _, small _)) (u16-below b (o + 6) (small _, small _)))
 
 module _ (w : ℕ) (b : List ℕ) (o from x y : ℕ) (e : from ≡ o + 1 + (w - 9)) (p : x ≡ u32At b from) (q : y ≡ u32At b (from + 4)) where
   pub packed-is : x * 4294967296 + y ≡ packedAt w b o
