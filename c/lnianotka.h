@@ -14,10 +14,12 @@ extern "C" {
 #endif
 
 /* The longest inputs that are read; a longer one is refused. */
-enum { LNIANOTKA_JUDGE_INPUT = 40785, LNIANOTKA_CUT_INPUT = 41298 };
+size_t lnianotka_judge_input(void);
+size_t lnianotka_cut_input(void);
 
 /* Room enough for every answer of the judge, and of the cutter. */
-enum { LNIANOTKA_JUDGE_ANSWER = 153, LNIANOTKA_CUT_ANSWER = 35146 };
+size_t lnianotka_judge_answer(void);
+size_t lnianotka_cut_answer(void);
 
 /* The number of the first refusal, 1 to 10, that applies to a network record; 0 where the network is sound. */
 uint8_t lnianotka_check(const uint8_t *network, size_t length);

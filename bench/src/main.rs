@@ -4,7 +4,9 @@
 mod library;
 
 use reference::bench::{self, Load};
-use reference::{program, record};
+use reference::call::{CUT, JUDGE};
+use reference::form::VERSION_1;
+use reference::record;
 use std::hint::black_box;
 use std::time::Instant;
 
@@ -22,9 +24,9 @@ fn main() {
         "load       boxes  wires  call     proved  reference  ratio   proved  reference  ratio"
     );
     let mut over = Vec::new();
-    for load in bench::loads() {
+    for load in bench::loads(VERSION_1) {
         let (judge, cut, whole) = (load.judge_input(), load.cut_input(), load.whole_input());
-        let mut out = vec![0; record::LARGEST_NETWORK];
+        let mut out = vec![0; load.form.largest_network()];
         let mut show = |call, [proved, reference]: [Taken; 2]| {
             let (name, boxes, wires) = (&load.name, load.boxes, load.wires);
             print!("{name:<10} {boxes:>5} {wires:>6}  {call:<6}");
@@ -46,23 +48,18 @@ fn main() {
                 || record::check_network(black_box(network)),
             ),
         );
-        for (call, input, proved, reference) in [
-            (
-                "judge",
-                &judge,
-                library::judge as Proved,
-                program::judge_bytes as Reference,
-            ),
-            ("cut", &cut, library::cut, program::cut_bytes),
-            ("whole", &whole, library::cut, program::cut_bytes),
+        for (name, input, proved, call) in [
+            ("judge", &judge, library::judge as Proved, JUDGE),
+            ("cut", &cut, library::cut, CUT),
+            ("whole", &whole, library::cut, CUT),
         ] {
             let length = proved(input, &mut out);
-            assert!(out[..length] == reference(input), "the answers differ");
+            assert!(out[..length] == call.answer(input), "the answers differ");
             show(
-                call,
+                name,
                 both(
                     || proved(black_box(input), &mut out),
-                    || reference(black_box(input)),
+                    || call.answer(black_box(input)),
                 ),
             );
         }
@@ -74,7 +71,6 @@ fn main() {
 }
 
 type Proved = fn(&[u8], &mut [u8]) -> usize;
-type Reference = fn(&[u8]) -> Vec<u8>;
 
 /// The bar is for the largest records; the others show how the cost grows.
 fn largest(load: &Load) -> bool {

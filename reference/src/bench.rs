@@ -1,11 +1,13 @@
 //! Timing the calls on the largest records, and writing those records down for others to time.
 
+use crate::call::{CUT, JUDGE};
 use crate::cut;
+use crate::form::{Form, ENTRIES_HEAD, MOST_EDGES, MOST_POLICIES, SHEET_LEAD, VERSION_1};
 use crate::judge;
 use crate::plan::{list_record, sheet_record};
-use crate::program;
 use crate::random::Random;
-use crate::record::{self, LARGEST_NETWORK, MOST_EDGES, MOST_NODES, MOST_POLICIES};
+use crate::record;
+use crate::route::TOP;
 use crate::scene::{self, Dress, Ids, Scene, Style};
 use crate::shapes::{self, Shape};
 use std::hint::black_box;
@@ -16,6 +18,7 @@ const SEED: u64 = 0x6c6e_6961_6e6f_746b;
 
 /// One network with a list that passes and a sheet that cuts.
 pub struct Load {
+    pub form: Form,
     pub name: String,
     pub boxes: usize,
     pub wires: usize,
@@ -24,28 +27,25 @@ pub struct Load {
     pub sheet: Vec<u8>,
 }
 
-/// The three largest networks, and random ones of fewer wires to see the cost grow.
-pub fn loads() -> Vec<Load> {
+/// The three largest networks of a form, and random ones of fewer wires to see the cost grow.
+pub fn loads(form: Form) -> Vec<Load> {
     let mut random = Random::new(SEED);
     let r = &mut random;
-    let mut loads = Vec::new();
-    let scattered = shapes::scattered(MOST_NODES, MOST_EDGES, r);
-    loads.push(load(
-        "random",
-        &scattered,
-        Ids::Sparse,
-        &quarters(MOST_NODES),
-        r,
-    ));
-    let ring = shapes::ring_with_chords(MOST_NODES, MOST_EDGES, r);
-    loads.push(load("ring", &ring, Ids::From(1), &quarters(MOST_NODES), r));
-    let tree = shapes::fat_tree(16);
-    loads.push(load("fattree", &tree, Ids::From(0), &shapes::pods(16), r));
+    let (most, mut loads) = (form.most, Vec::new());
+    let mut add = |name: &str, shape: &Shape, ids, numbers: &[u8], r: &mut Random| {
+        loads.push(load(form, name, shape, ids, numbers, r));
+    };
+    let scattered = shapes::scattered(most, MOST_EDGES, r);
+    add("random", &scattered, Ids::Sparse, &quarters(most), r);
+    let ring = shapes::ring_with_chords(most, MOST_EDGES, r);
+    add("ring", &ring, Ids::From(1), &quarters(most), r);
+    let (tree, pods) = (shapes::fat_tree(16), shapes::pods(16));
+    add("fattree", &tree, Ids::From(0), &pods, r);
     for wires in [512, 1_024, 2_048, 4_096] {
         let mut shape = scattered.clone();
         shape.thin(wires, r);
         let name = format!("wires{wires}");
-        loads.push(load(&name, &shape, Ids::Sparse, &quarters(MOST_NODES), r));
+        add(&name, &shape, Ids::Sparse, &quarters(most), r);
     }
     loads
 }
@@ -55,8 +55,17 @@ fn quarters(boxes: usize) -> Vec<u8> {
     (0..boxes).map(|row| (row * 4 / boxes) as u8).collect()
 }
 
-fn load(name: &str, shape: &Shape, ids: Ids, numbers: &[u8], random: &mut Random) -> Load {
+fn load(
+    form: Form,
+    name: &str,
+    shape: &Shape,
+    ids: Ids,
+    numbers: &[u8],
+    random: &mut Random,
+) -> Load {
     let dress = Dress {
+        form,
+        top: TOP,
         ids,
         style: Style::Steady,
         policies: MOST_POLICIES,
@@ -68,12 +77,13 @@ fn load(name: &str, shape: &Shape, ids: Ids, numbers: &[u8], random: &mut Random
     assert!(scene.settled, "a steady plan settles");
     scene.ask(3, random);
     Load {
+        form,
         name: name.to_string(),
         boxes: scene.plan.nodes.len(),
         wires: scene.plan.edges.len(),
         network: scene.plan.record(),
-        list: list_record(&scene.list()),
-        sheet: sheet_record(&scene.sheet(numbers)),
+        list: list_record(form, &scene.list()),
+        sheet: sheet_record(form, &scene.sheet(numbers)),
     }
 }
 
@@ -95,7 +105,7 @@ impl Load {
 
     fn whole_sheet(&self) -> Vec<u8> {
         let mut sheet = self.sheet.clone();
-        for entry in sheet[record::ENTRIES_HEAD..].chunks_exact_mut(record::SHEET_ENTRY) {
+        for entry in sheet[ENTRIES_HEAD..].chunks_exact_mut(self.form.entry(SHEET_LEAD)) {
             entry[2] = 0;
         }
         sheet
@@ -106,17 +116,20 @@ impl Load {
 /// all boxes in it; the two programs are timed over bytes, from input to output.
 pub fn run() {
     println!("load       boxes  wires  call         median   lowest");
-    for load in loads() {
+    for load in loads(VERSION_1) {
         let (network, list, sheet) = (&load.network[..], &load.list[..], &load.sheet[..]);
         let whole = load.whole_sheet();
         let (judge_input, cut_input) = (load.judge_input(), load.cut_input());
-        let out = &mut vec![0; LARGEST_NETWORK];
+        let out = &mut vec![0; load.form.largest_network()];
         let show = |call: &str, (median, lowest): (u128, u128)| {
             let (name, boxes, wires) = (&load.name, load.boxes, load.wires);
             println!("{name:<10} {boxes:>5} {wires:>6}  {call:<11} {median:>7} {lowest:>8}");
         };
         show("check", time(|| record::check_network(black_box(network))));
-        show("judge", time(|| judge::judge(black_box(network), list)));
+        show(
+            "judge",
+            time(|| judge::judge(black_box(network), list, TOP)),
+        );
         show("cut", time(|| cut::cut(black_box(network), sheet, 0, out)));
         show(
             "whole",
@@ -124,12 +137,9 @@ pub fn run() {
         );
         show(
             "judge_bytes",
-            time(|| program::judge_bytes(black_box(&judge_input))),
+            time(|| JUDGE.answer(black_box(&judge_input))),
         );
-        show(
-            "cut_bytes",
-            time(|| program::cut_bytes(black_box(&cut_input))),
-        );
+        show("cut_bytes", time(|| CUT.answer(black_box(&cut_input))));
     }
 }
 
@@ -153,7 +163,7 @@ fn time<T>(mut call: impl FnMut() -> T) -> (u128, u128) {
 /// Writes every load's records and inputs into a directory.
 pub fn write_inputs(directory: &Path) -> std::io::Result<()> {
     std::fs::create_dir_all(directory)?;
-    for load in loads() {
+    for load in loads(VERSION_1) {
         let put = |ending: &str, bytes: &[u8]| {
             std::fs::write(directory.join(format!("{}.{ending}", load.name)), bytes)
         };

@@ -1,20 +1,22 @@
 //! Cutting: laying down the network of one fragment.
 
-use crate::record::{self, at, Edge, Network, Node, Refusal, Sheet, Table};
-use crate::record::{EDGE, MOST_NODES, NETWORK_HEAD, VERSION};
-use crate::route::{NO_ROUTE, ROUTE};
+use crate::form::{EDGE, KIND, MOST, ROUTE};
+use crate::record::{Cut, Network, Node, Table};
+use crate::refusal::{refuse, Refusal};
+use crate::route;
+use std::array::from_fn;
 
 /// Stands for a number at the rows of inputs, which have none; no sheet has a number so high.
 const UNNUMBERED: u8 = u8::MAX;
 
 /// What the sheet and the wires say of each row.
-struct Marks<'a> {
-    number: [u8; MOST_NODES],
-    note: [&'a [u8; ROUTE]; MOST_NODES],
+struct Marks {
+    asked: u8,
+    number: [u8; MOST],
     /// A cut edge leaves the node.
-    leaves: [bool; MOST_NODES],
+    leaves: [bool; MOST],
     /// An edge leads from the node to one of the fragment's own nodes.
-    feeds: [bool; MOST_NODES],
+    feeds: [bool; MOST],
     /// How many edges have their to end in the fragment.
     edges: usize,
 }
@@ -33,47 +35,60 @@ enum Role {
 /// `out` as it was, and so does a successful one behind the record.
 pub fn cut(network: &[u8], sheet: &[u8], asked: u8, out: &mut [u8]) -> Result<usize, Refusal> {
     let mut table = Table::empty();
-    let network = record::read_network(network, &mut table)?;
-    let sheet = record::read_sheet(sheet)?;
-    let marks = mark(&network, &sheet, asked, &table)?;
-    check_notes(&network, &marks)?;
-    let nodes = fragment_nodes(&network, &marks, asked).count();
+    let cut = Cut::read(network, sheet, &mut table)?;
+    let network = &cut.network;
+    let marks = mark(&cut, asked, &table)?;
+    check_notes(&cut, &marks)?;
+    let nodes = (0..MOST).filter(|row| marks.keeps(*row)).count();
     let policies = network.policies().len();
-    let total = record::network_total(policies, nodes, marks.edges);
+    let total = network.form.network(policies, nodes, marks.edges);
     if out.len() < total {
-        return record::refuse(20, total);
+        return refuse(20, total);
     }
-    let rest = put(out, &head(total, nodes, marks.edges, policies));
+    let head = network.form.network_head(policies, nodes, marks.edges);
+    let rest = put(out, &head);
     let rest = put(rest, network.policy_part());
-    let rest = put_nodes(rest, &network, &marks, asked);
-    put_edges(rest, &network, &marks, asked, &table);
+    let rest = put_nodes(rest, &cut, &marks);
+    put_edges(rest, network, &marks, &table);
     Ok(total)
 }
 
-/// Gathers the marks in one pass over the wires, or refuses with 17 or 18. A wire from an input
-/// is never cut: the input goes with it.
-fn mark<'a>(
-    network: &Network,
-    sheet: &Sheet<'a>,
-    asked: u8,
-    table: &Table,
-) -> Result<Marks<'a>, Refusal> {
+impl Marks {
+    /// An own node of the fragment.
+    fn inside(&self, row: usize) -> bool {
+        self.number[row] == self.asked
+    }
+
+    /// A node of the fragment.
+    fn keeps(&self, row: usize) -> bool {
+        self.inside(row) | self.feeds[row]
+    }
+
+    /// The role of a node that the fragment keeps.
+    fn role(&self, row: usize, node: Node) -> Role {
+        match (self.inside(row), self.number[row]) {
+            (true, _) if self.leaves[row] && !node.has_promise() => Role::Promising,
+            (true, _) | (false, UNNUMBERED) => Role::Kept,
+            (false, _) => Role::Assumed,
+        }
+    }
+}
+
+/// Gathers the marks in one pass over the wires, or refuses with 18. A wire from an input is
+/// never cut: the input goes with it.
+fn mark(cut: &Cut, asked: u8, table: &Table) -> Result<Marks, Refusal> {
     let mut marks = Marks {
-        number: [UNNUMBERED; MOST_NODES],
-        note: [&NO_ROUTE; MOST_NODES],
-        leaves: [false; MOST_NODES],
-        feeds: [false; MOST_NODES],
+        asked,
+        number: from_fn(|row| cut.fragment(row).unwrap_or(UNNUMBERED)),
+        leaves: [false; MOST],
+        feeds: [false; MOST],
         edges: 0,
     };
-    record::pair(network, sheet, |row, entry| {
-        marks.number[row] = entry[2];
-        marks.note[row] = Sheet::route_bytes(entry);
-    })?;
     if asked == UNNUMBERED || !marks.number.contains(&asked) {
-        return record::refuse(18, asked.into());
+        return refuse(18, asked.into());
     }
-    for edge in network.edges() {
-        let (to, from) = ends(&edge, table);
+    for edge in cut.network.edges() {
+        let (to, from) = (end(edge.to, table), end(edge.from, table));
         let (ahead, behind) = (marks.number[to], marks.number[from]);
         marks.leaves[from] |= behind != ahead && behind != UNNUMBERED;
         marks.feeds[from] |= ahead == asked;
@@ -83,52 +98,19 @@ fn mark<'a>(
 }
 
 /// Refusal 19: a promise of the network that another fragment would not be told.
-fn check_notes(network: &Network, marks: &Marks) -> Result<(), Refusal> {
-    for (row, node) in network.nodes().enumerate() {
-        if marks.leaves[row] && node.has_promise() && node.promised_bytes() != marks.note[row] {
-            return record::refuse(19, node.id().into());
+fn check_notes(cut: &Cut, marks: &Marks) -> Result<(), Refusal> {
+    for (row, node) in cut.network.nodes().enumerate() {
+        let broken = || Some(node.promised_bytes) != cut.route_bytes(row);
+        if marks.leaves[row] && node.has_promise() && broken() {
+            return refuse(19, node.id().into());
         }
     }
     Ok(())
 }
 
-/// The rows of the two ends.
-fn ends(edge: &Edge, table: &Table) -> (usize, usize) {
-    let row = |id| table.row(id).expect("both ends of an edge exist");
-    (row(edge.to), row(edge.from))
-}
-
-/// The role of a node, or nothing where the fragment does not have it.
-fn role(node: Node, row: usize, marks: &Marks, asked: u8) -> Option<Role> {
-    if marks.number[row] == asked {
-        return if marks.leaves[row] && !node.has_promise() {
-            Some(Role::Promising)
-        } else {
-            Some(Role::Kept)
-        };
-    }
-    match (marks.feeds[row], node.is_own()) {
-        (false, _) => None,
-        (true, true) => Some(Role::Assumed),
-        (true, false) => Some(Role::Kept),
-    }
-}
-
-/// The fragment's nodes in their order, each with its row and role.
-fn fragment_nodes<'a>(
-    network: &Network<'a>,
-    marks: &'a Marks,
-    asked: u8,
-) -> impl Iterator<Item = (usize, Node<'a>, Role)> {
-    let nodes = network.nodes().enumerate();
-    nodes.filter_map(move |(row, node)| Some((row, node, role(node, row, marks, asked)?)))
-}
-
-fn head(total: usize, nodes: usize, edges: usize, policies: usize) -> [u8; NETWORK_HEAD] {
-    let [l3, l2, l1, l0] = (total as u32 - 4).to_be_bytes();
-    let [n1, n0] = (nodes as u16).to_be_bytes();
-    let [e1, e0] = (edges as u16).to_be_bytes();
-    [l3, l2, l1, l0, VERSION, n1, n0, e1, e0, policies as u8]
+/// The row of an edge's end.
+fn end(id: u16, table: &Table) -> usize {
+    table.row(id).expect("both ends of an edge exist")
 }
 
 /// Lays bytes at the front of what remains and gives back the rest.
@@ -138,40 +120,38 @@ fn put<'a>(out: &'a mut [u8], bytes: &[u8]) -> &'a mut [u8] {
     rest
 }
 
-fn put_nodes<'a>(
-    mut out: &'a mut [u8],
-    network: &Network,
-    marks: &Marks,
-    asked: u8,
-) -> &'a mut [u8] {
-    for (row, node, role) in fragment_nodes(network, marks, asked) {
-        let mut bytes = *node.0;
-        let note = marks.note[row];
-        match role {
-            Role::Kept => {}
+fn put_nodes<'a>(mut out: &'a mut [u8], cut: &Cut, marks: &Marks) -> &'a mut [u8] {
+    let form = cut.network.form;
+    let note = |row| cut.route_bytes(row).expect("an own node has an entry");
+    let nodes = cut.network.nodes().enumerate();
+    for (row, node) in nodes.filter(|(row, _)| marks.keeps(*row)) {
+        let (bytes, rest) = out.split_at_mut(form.node());
+        match marks.role(row, node) {
+            Role::Kept => bytes.copy_from_slice(node.bytes),
             Role::Promising => {
-                bytes[at::FLAG] = 1;
-                bytes[at::PROMISED..at::DEMAND].copy_from_slice(note);
+                bytes.copy_from_slice(node.bytes);
+                bytes[form.flag()] = 1;
+                route::copy(note(row), &mut bytes[form.promised()..form.demand()]);
             }
             Role::Assumed => {
-                bytes[at::KIND..].fill(0);
-                bytes[at::KIND] = 1;
-                bytes[at::ROUTE..at::FLAG].copy_from_slice(note);
+                bytes.fill(0);
+                bytes[..KIND].copy_from_slice(&node.bytes[..KIND]);
+                bytes[KIND] = 1;
+                route::copy(note(row), &mut bytes[ROUTE..form.flag()]);
             }
         }
-        out = put(out, &bytes);
+        out = rest;
     }
     out
 }
 
 /// The edges whose to end is in the fragment. Edges to one node follow each other, so whole runs
 /// are copied at a time.
-fn put_edges(mut out: &mut [u8], network: &Network, marks: &Marks, asked: u8, table: &Table) {
+fn put_edges(mut out: &mut [u8], network: &Network, marks: &Marks, table: &Table) {
     let part = network.edge_part();
     let mut start = None;
     for (row, edge) in network.edges().enumerate() {
-        let (to, _) = ends(&edge, table);
-        match (start, marks.number[to] == asked) {
+        match (start, marks.inside(end(edge.to, table))) {
             (None, true) => start = Some(row),
             (Some(first), false) => {
                 out = put(out, &part[EDGE * first..EDGE * row]);

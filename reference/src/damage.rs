@@ -1,77 +1,13 @@
 //! Damages: changes to an input that call for one refusal or another. Which one is given back is
 //! for the check to say; a damage may hide behind another, or find nothing of its sort to change.
 
-use crate::program;
+use crate::form::{length_field, Form, ENTRIES_HEAD, NETWORK_HEAD, VERSION_AT};
+use crate::input::Input;
 use crate::random::Random;
-use crate::record::{ENTRIES_HEAD, LIST_ENTRY, NETWORK_HEAD, SHEET_ENTRY};
 
 mod entries;
 mod layout;
 mod network;
-
-/// The two programs, and cutting into a buffer of a given length.
-#[derive(Clone, Copy, Debug, PartialEq, Eq)]
-pub enum Call {
-    Judge,
-    Cut,
-    Lent,
-}
-
-/// An input by its parts; only the cutter's has a fragment asked.
-#[derive(Clone, Debug)]
-pub struct Input {
-    pub call: Call,
-    pub network: Vec<u8>,
-    pub asked: Option<u8>,
-    pub second: Vec<u8>,
-}
-
-impl Call {
-    pub fn answer(self, input: &[u8]) -> Vec<u8> {
-        match self {
-            Call::Judge => program::judge_bytes(input),
-            Call::Cut => program::cut_bytes(input),
-            Call::Lent => program::lent_bytes(input),
-        }
-    }
-}
-
-impl Input {
-    pub fn judge(network: Vec<u8>, list: Vec<u8>) -> Input {
-        Input {
-            call: Call::Judge,
-            network,
-            asked: None,
-            second: list,
-        }
-    }
-
-    pub fn cut(network: Vec<u8>, asked: u8, sheet: Vec<u8>) -> Input {
-        Input {
-            call: Call::Cut,
-            network,
-            asked: Some(asked),
-            second: sheet,
-        }
-    }
-
-    pub fn bytes(&self) -> Vec<u8> {
-        let asked = Vec::from_iter(self.asked);
-        [&self.network[..], &asked, &self.second].concat()
-    }
-
-    pub fn answer(&self) -> Vec<u8> {
-        self.call.answer(&self.bytes())
-    }
-
-    /// Bytes of an entry of the second record.
-    fn entry(&self) -> usize {
-        match self.call {
-            Call::Judge => LIST_ENTRY,
-            Call::Cut | Call::Lent => SHEET_ENTRY,
-        }
-    }
-}
 
 pub type Damage = fn(&mut Input, &mut Random);
 
@@ -119,14 +55,12 @@ pub const ALL: [(&str, Damage); 39] = [
 ];
 
 fn short(input: &mut Input, random: &mut Random) {
-    input.asked = None;
-    input.second.clear();
+    leave_network(input);
     input.network.truncate(random.below(NETWORK_HEAD));
 }
 
 fn under_total(input: &mut Input, random: &mut Random) {
-    input.asked = None;
-    input.second.clear();
+    leave_network(input);
     cut_off(&mut input.network, NETWORK_HEAD, random);
 }
 
@@ -138,6 +72,11 @@ fn second_under_total(input: &mut Input, random: &mut Random) {
     cut_off(&mut input.second, ENTRIES_HEAD, random);
 }
 
+fn leave_network(input: &mut Input) {
+    input.between.clear();
+    input.second.clear();
+}
+
 /// Takes bytes from the end, the last one at least, and leaves the head.
 fn cut_off(record: &mut Vec<u8>, head: usize, random: &mut Random) {
     if record.len() > head {
@@ -146,13 +85,13 @@ fn cut_off(record: &mut Vec<u8>, head: usize, random: &mut Random) {
 }
 
 fn longer(input: &mut Input, random: &mut Random) {
-    let more = random.within(1, input.entry() + 1);
+    let more = random.within(1, input.form.entry(input.lead) + 1);
     input.second.extend((0..more).map(|_| random.byte()));
 }
 
 fn version(record: &mut [u8], random: &mut Random) {
     let other = *random.pick(&[0, 2, 3, 255]);
-    set(record, 4, &[other]);
+    set(record, VERSION_AT, &[other]);
 }
 
 /// Another length: near the right one, or far off.
@@ -172,6 +111,11 @@ fn length(record: &mut [u8], random: &mut Random) {
     set(record, 0, &other.to_be_bytes());
 }
 
+/// Makes the length right again.
+fn mend_length(record: &mut [u8]) {
+    set(record, 0, &length_field(record.len()));
+}
+
 /// Writes bytes over those at an offset, where the record is long enough.
 fn set(record: &mut [u8], offset: usize, bytes: &[u8]) {
     if let Some(part) = record.get_mut(offset..offset + bytes.len()) {
@@ -187,13 +131,13 @@ fn number(record: &[u8], offset: usize) -> u16 {
     }
 }
 
-/// Nine bytes that are no route: a present byte over 1, or bytes behind a zero.
-fn ill_route(random: &mut Random) -> [u8; 9] {
-    let mut route = [0; 9];
+/// As many bytes as a route has that are none: a present byte over 1, or bytes behind a zero.
+fn ill_route(form: Form, random: &mut Random) -> Vec<u8> {
+    let mut route = vec![0; form.route];
     if random.one_in(2) {
         route[0] = random.within(2, 255) as u8
     } else {
-        route[random.within(1, 8)] = random.within(1, 255) as u8
+        route[random.within(1, form.route - 1)] = random.within(1, 255) as u8
     }
     route
 }

@@ -1,7 +1,9 @@
 //! Judging: does every own box hold what its neighbours make due, what it promised, and what is
 //! asked of it?
 
-use crate::record::{self, Entries, List, Network, Refusal, Table, MOST_NODES, MOST_POLICIES};
+use crate::form::{MOST, MOST_POLICIES};
+use crate::record::{Network, Node, Proposal, Table};
+use crate::refusal::Refusal;
 use crate::route::{self, Policy, Promise, Route};
 
 /// What is wrong at the named box. The route is the due one, the promised one or the listed one.
@@ -51,72 +53,55 @@ impl Verdict {
     }
 }
 
-/// Judges a list against a network.
-pub fn judge(network: &[u8], list: &[u8]) -> Verdict {
+/// Judges a list against a network in which no wire gives a cost over `top`.
+pub fn judge(network: &[u8], list: &[u8], top: u16) -> Verdict {
     let mut table = Table::empty();
-    let mut held = [None; MOST_NODES];
-    match read_both(network, list, &mut table, &mut held) {
-        Ok(network) => search(&network, &table, &held),
+    match Proposal::read(network, list, &mut table) {
+        Ok(proposal) => search(&proposal, &table, top),
         Err(refusal) => Verdict::Refused(refusal),
     }
 }
 
-/// The nine bytes of the route that a node holds, as they stand in the list (an own node) or in
-/// the network (an input). Empty where judging would be refused or no node has the id.
+/// The bytes of the route that a node holds, as they stand in the list (an own node) or in the
+/// network (an input). Empty where judging would be refused or no node has the id.
 pub fn neighbour<'a>(network: &'a [u8], list: &'a [u8], id: u16) -> &'a [u8] {
     let mut table = Table::empty();
-    let Ok((network, list)) = read_records(network, list, &mut table) else {
-        return &[];
-    };
-    let mut listed: &[u8] = &[];
-    let paired = record::pair(&network, &list, |_, entry| {
-        if List::id(entry) == id {
-            listed = List::route_bytes(entry);
-        }
-    });
-    match (paired, table.row(id)) {
-        (Ok(()), Some(row)) if network.node(row).is_own() => listed,
-        (Ok(()), Some(row)) => network.node(row).route_bytes(),
+    let proposal = Proposal::read(network, list, &mut table);
+    match (proposal, table.row(id)) {
+        (Ok(proposal), Some(row)) => held_bytes(&proposal, row, proposal.network.node(row)),
         _ => &[],
     }
 }
 
-/// The refusals of the network come before those of the list.
-fn read_records<'a>(
-    network: &'a [u8],
-    list: &'a [u8],
-    table: &mut Table,
-) -> Result<(Network<'a>, List<'a>), Refusal> {
-    let network = record::read_network(network, table)?;
-    let list = record::read_list(list)?;
-    Ok((network, list))
+/// What a node holds: the listed route of an own node, the assumed one of an input.
+fn held_bytes<'a>(proposal: &Proposal<'a>, row: usize, node: Node<'a>) -> &'a [u8] {
+    proposal.route_bytes(row).unwrap_or(node.route_bytes)
 }
 
-/// Reads both records and lays out, by row, the route that each node holds: the listed one of an
-/// own node, the assumed one of an input.
-fn read_both<'a>(
-    network: &'a [u8],
-    list: &'a [u8],
-    table: &mut Table,
-    held: &mut [Option<Route>; MOST_NODES],
-) -> Result<Network<'a>, Refusal> {
-    let (network, list) = read_records(network, list, table)?;
-    for (row, node) in network.nodes().enumerate() {
-        held[row] = node.route();
+/// What each node holds, by row. Worked out apart from the search, which needs all registers.
+#[inline(never)]
+fn held_routes(proposal: &Proposal) -> [Option<Route>; MOST] {
+    let mut held = [None; MOST];
+    for (row, node) in proposal.network.nodes().enumerate() {
+        held[row] = route::read(held_bytes(proposal, row, node));
     }
-    record::pair(&network, &list, |row, entry| {
-        held[row] = route::read(Entries::route_bytes(entry));
-    })?;
-    Ok(network)
+    held
 }
 
-/// Takes the own nodes by rising id and stops at the first fault. Edges rise by their to end,
-/// which is an own node, so each node's incoming edges are the next ones.
-fn search(network: &Network, table: &Table, held: &[Option<Route>; MOST_NODES]) -> Verdict {
+fn policies(network: &Network) -> [Policy; MOST_POLICIES] {
     let mut policies = [Policy::default(); MOST_POLICIES];
     for (slot, policy) in policies.iter_mut().zip(network.policies()) {
         *slot = policy;
     }
+    policies
+}
+
+/// Takes the own nodes by rising id and stops at the first fault. Edges rise by their to end,
+/// which is an own node, so each node's incoming edges are the next ones.
+fn search(proposal: &Proposal, table: &Table, top: u16) -> Verdict {
+    let network = &proposal.network;
+    let held = held_routes(proposal);
+    let policies = policies(network);
     let mut edges = network.edges();
     let mut next = edges.next();
     let mut judged = 0;
@@ -130,7 +115,7 @@ fn search(network: &Network, table: &Table, held: &[Option<Route>; MOST_NODES]) 
         while let Some(edge) = next.filter(|edge| edge.to == id) {
             next = edges.next();
             let from = table.row(edge.from).expect("both ends of an edge exist");
-            let carried = route::carry(&policies[usize::from(edge.policy)], held[from]);
+            let carried = route::carry(&policies[usize::from(edge.policy)], held[from], top);
             due = route::better(due, carried);
         }
         if let Some(fault) = fault_of(held[row], due, node) {
@@ -145,7 +130,7 @@ fn search(network: &Network, table: &Table, held: &[Option<Route>; MOST_NODES]) 
 }
 
 /// The first fault of one own node. A promise of no route is held to like any other.
-fn fault_of(listed: Option<Route>, due: Option<Route>, node: record::Node) -> Option<Fault> {
+fn fault_of(listed: Option<Route>, due: Option<Route>, node: Node) -> Option<Fault> {
     if listed != due {
         return Some(Fault::NotDue(due));
     }

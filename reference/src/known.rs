@@ -15,7 +15,7 @@ pub fn chain() -> Plan {
             Node::own(2, None),
             Node::own(3, None),
         ],
-        edges: vec![],
+        ..Plan::default()
     };
     plan.nodes[2].demand = Demand::Route {
         ceiling: 2,
@@ -82,7 +82,7 @@ fn around_box_1(others: u16) -> Plan {
     let mut plan = Plan {
         policies: around_policies(),
         nodes: vec![Node::own(1, Some(START))],
-        edges: vec![],
+        ..Plan::default()
     };
     for id in 2..2 + others {
         plan.nodes.push(Node::own(id, None));

@@ -1,17 +1,21 @@
 //! An independent reading of the rules for route plans: check a record, judge a list, cut out a
-//! fragment, and the two programs over bytes. The rest makes inputs: for tests, for stored cases
-//! and for timing.
+//! fragment, and the calls over bytes. The rest makes inputs: for tests, for stored cases and for
+//! timing.
 #![forbid(unsafe_code)]
 
+pub mod call;
 pub mod cut;
+pub mod form;
 pub mod judge;
 pub mod program;
 pub mod record;
+pub mod refusal;
 pub mod route;
 
 pub mod bench;
 pub mod cases;
 pub mod damage;
+pub mod input;
 pub mod known;
 pub mod plan;
 pub mod random;

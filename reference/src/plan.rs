@@ -1,7 +1,8 @@
 //! Plans: the values that records are laid down from. Nothing is checked here, so that records
 //! that deserve a refusal can be laid down too.
 
-use crate::record::{network_total, Edge, ENTRIES_HEAD, LIST_ENTRY, SHEET_ENTRY, VERSION};
+use crate::form::{Form, LIST_LEAD, SHEET_LEAD};
+use crate::record::Edge;
 use crate::route::{self, Demand, Policy, Promise, Route};
 
 #[derive(Clone, Debug)]
@@ -33,9 +34,10 @@ impl Node {
     }
 }
 
-/// A network before it is a record.
+/// A network before it is a record of its form.
 #[derive(Clone, Debug, Default)]
 pub struct Plan {
+    pub form: Form,
     pub policies: Vec<Policy>,
     pub nodes: Vec<Node>,
     pub edges: Vec<Edge>,
@@ -46,6 +48,11 @@ pub type Listed = (u16, Option<Route>);
 pub type Noted = (u16, u8, Option<Route>);
 
 impl Plan {
+    /// The same plan in another form.
+    pub fn of(self, form: Form) -> Plan {
+        Plan { form, ..self }
+    }
+
     /// A wire; the edges are brought into order when the record is laid down.
     pub fn wire(&mut self, from: u16, to: u16, policy: u8) {
         self.edges.push(Edge { to, from, policy });
@@ -65,18 +72,13 @@ impl Plan {
         nodes.sort_by_key(|node| node.id);
         let mut edges = self.edges.clone();
         edges.sort_by_key(|edge| (edge.to, edge.from));
-        let total = network_total(self.policies.len(), nodes.len(), edges.len());
-        let mut record = Vec::with_capacity(total);
-        record.extend((total as u32 - 4).to_be_bytes());
-        record.push(VERSION);
-        record.extend((nodes.len() as u16).to_be_bytes());
-        record.extend((edges.len() as u16).to_be_bytes());
-        record.push(self.policies.len() as u8);
+        let head = (self.form).network_head(self.policies.len(), nodes.len(), edges.len());
+        let mut record = head.to_vec();
         for policy in &self.policies {
             lay_policy(&mut record, policy);
         }
         for node in nodes {
-            lay_node(&mut record, node);
+            lay_node(&mut record, self.form, node);
         }
         for edge in edges {
             lay_numbers(&mut record, &[edge.to, edge.from]);
@@ -87,32 +89,23 @@ impl Plan {
 }
 
 /// A route list record; the entries stand as they are given.
-pub fn list_record(entries: &[Listed]) -> Vec<u8> {
-    let mut record = entries_head(entries.len(), LIST_ENTRY);
+pub fn list_record(form: Form, entries: &[Listed]) -> Vec<u8> {
+    let mut record = form.entries_head(LIST_LEAD, entries.len()).to_vec();
     for (id, listed) in entries {
         record.extend(id.to_be_bytes());
-        record.extend(route::bytes(*listed));
+        record.extend(route::bytes(form, *listed));
     }
     record
 }
 
 /// A sheet record; the entries stand as they are given.
-pub fn sheet_record(entries: &[Noted]) -> Vec<u8> {
-    let mut record = entries_head(entries.len(), SHEET_ENTRY);
+pub fn sheet_record(form: Form, entries: &[Noted]) -> Vec<u8> {
+    let mut record = form.entries_head(SHEET_LEAD, entries.len()).to_vec();
     for (id, fragment, note) in entries {
         record.extend(id.to_be_bytes());
         record.push(*fragment);
-        record.extend(route::bytes(*note));
+        record.extend(route::bytes(form, *note));
     }
-    record
-}
-
-fn entries_head(count: usize, size: usize) -> Vec<u8> {
-    let total = ENTRIES_HEAD + size * count;
-    let mut record = Vec::with_capacity(total);
-    record.extend((total as u32 - 4).to_be_bytes());
-    record.push(VERSION);
-    record.extend((count as u16).to_be_bytes());
     record
 }
 
@@ -136,16 +129,16 @@ fn lay_policy(record: &mut Vec<u8>, policy: &Policy) {
     lay_numbers(record, &[preference.unwrap_or(0), cost]);
 }
 
-fn lay_node(record: &mut Vec<u8>, node: &Node) {
+fn lay_node(record: &mut Vec<u8>, form: Form, node: &Node) {
     record.extend(node.id.to_be_bytes());
     record.push(u8::from(!node.own));
-    record.extend(route::bytes(node.route));
+    record.extend(route::bytes(form, node.route));
     let (flag, promised) = match node.promise {
         Promise::Nothing => (0, None),
         Promise::Holds(promised) => (1, promised),
     };
     record.push(flag);
-    record.extend(route::bytes(promised));
+    record.extend(route::bytes(form, promised));
     let (demand, ceiling, tags) = match node.demand {
         Demand::Nothing => (0, 0, 0),
         Demand::Route { ceiling, tags } => (1, ceiling, tags),
@@ -153,4 +146,5 @@ fn lay_node(record: &mut Vec<u8>, node: &Node) {
     };
     record.push(demand);
     lay_numbers(record, &[ceiling, tags]);
+    record.extend(vec![0; form.tail]);
 }

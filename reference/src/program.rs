@@ -1,22 +1,14 @@
-//! The two programs, from standard input to standard output.
+//! What the calls read and write, from bytes to bytes.
 
 use crate::cut;
 use crate::judge::{self, Verdict};
-use crate::record::{Refusal, LARGEST_LIST, LARGEST_NETWORK, LARGEST_SHEET};
-use crate::route::Route;
-
-/// The most bytes that the judge reads: the two largest records together.
-pub const JUDGE_BOUND: usize = LARGEST_NETWORK + LARGEST_LIST;
-/// The most bytes that the cutter reads: one more, for the fragment asked.
-pub const CUT_BOUND: usize = LARGEST_NETWORK + 1 + LARGEST_SHEET;
+use crate::refusal::Refusal;
+use crate::route::{Route, TOP};
 
 /// The judge: a network and then a list; one line back.
 pub fn judge_bytes(input: &[u8]) -> Vec<u8> {
-    if input.len() > JUDGE_BOUND {
-        return refused_line(over_size(JUDGE_BOUND));
-    }
     let (network, list) = split(input);
-    match judge::judge(network, list) {
+    match judge::judge(network, list, TOP) {
         Verdict::Pass { judged } => format!("pass {judged}\n").into_bytes(),
         Verdict::Refused(refusal) => refused_line(refusal),
         Verdict::Found {
@@ -33,9 +25,6 @@ pub fn judge_bytes(input: &[u8]) -> Vec<u8> {
 
 /// The cutter: a network, the fragment asked, and then a sheet; the fragment back, or a line.
 pub fn cut_bytes(input: &[u8]) -> Vec<u8> {
-    if input.len() > CUT_BOUND {
-        return refused_line(over_size(CUT_BOUND));
-    }
     let (network, rest) = split(input);
     // A fragment is never larger than its network.
     cut_parts(network, rest, network.len())
@@ -83,14 +72,7 @@ pub fn split(input: &[u8]) -> (&[u8], &[u8]) {
     }
 }
 
-fn over_size(bound: usize) -> Refusal {
-    Refusal {
-        number: 5,
-        place: bound,
-    }
-}
-
-fn refused_line(refusal: Refusal) -> Vec<u8> {
+pub fn refused_line(refusal: Refusal) -> Vec<u8> {
     let Refusal { number, place } = refusal;
     format!("refused {number} {place}\n").into_bytes()
 }

@@ -4,109 +4,38 @@
 //! record cut off under its total is number 1 (11) only after 2 to 4 (12 to 14) have been looked
 //! for. What passes is read without copying: the views below lend parts of the record.
 
-use crate::route::{self, Policy, POLICY};
+use crate::form::{Form, EDGE, ENTRIES_HEAD, LAST_FRAGMENT, NETWORK_HEAD, POLICY};
+use crate::form::{COUNT_AT, FRAGMENT, MOST, MOST_EDGES, MOST_POLICIES, SHEET_LEAD, VERSION_AT};
+use crate::refusal::{refuse, Refusal};
+use crate::route::{self, Policy};
 
+mod pair;
 mod view;
 
+pub use pair::{Cut, Pair, Proposal};
 use view::{number_at, part_at, rows};
-pub use view::{Edge, Entries, List, Network, Node, Sheet, Table};
-
-pub const VERSION: u8 = 1;
-
-pub const MOST_NODES: usize = 512;
-pub const MOST_EDGES: usize = 4_096;
-pub const MOST_POLICIES: usize = 64;
-pub const MOST_ENTRIES: usize = 512;
-pub const LAST_FRAGMENT: u8 = 63;
-
-/// Bytes before the first policy, and before the first entry.
-pub const NETWORK_HEAD: usize = 10;
-pub const ENTRIES_HEAD: usize = 7;
-
-pub const NODE: usize = 27;
-pub const EDGE: usize = 5;
-pub const SHEET_ENTRY: usize = 12;
-pub const LIST_ENTRY: usize = 11;
-
-/// Where the fields of a node stand.
-pub mod at {
-    pub const ID: usize = 0;
-    pub const KIND: usize = 2;
-    pub const ROUTE: usize = 3;
-    pub const FLAG: usize = 12;
-    pub const PROMISED: usize = 13;
-    pub const DEMAND: usize = 22;
-    pub const CEILING: usize = 23;
-    pub const TAGS: usize = 25;
-}
-
-pub const LARGEST_NETWORK: usize = network_total(MOST_POLICIES, MOST_NODES, MOST_EDGES);
-pub const LARGEST_SHEET: usize = ENTRIES_HEAD + SHEET_ENTRY * MOST_ENTRIES;
-pub const LARGEST_LIST: usize = ENTRIES_HEAD + LIST_ENTRY * MOST_ENTRIES;
-
-/// Bytes of a network with these counts.
-pub const fn network_total(policies: usize, nodes: usize, edges: usize) -> usize {
-    NETWORK_HEAD + POLICY * policies + NODE * nodes + EDGE * edges
-}
-
-/// The first number that applies, and where.
-#[derive(Clone, Copy, Debug, PartialEq, Eq)]
-pub struct Refusal {
-    pub number: u8,
-    pub place: usize,
-}
-
-pub fn refuse<T>(number: u8, place: usize) -> Result<T, Refusal> {
-    Err(Refusal { number, place })
-}
-
-/// Gives `take` the row and the entry of every own node, or refuses with 17 at the first own
-/// node that has none. Nodes and entries both rise, so the two are walked side by side.
-pub fn pair<'a, const SIZE: usize>(
-    network: &Network,
-    entries: &Entries<'a, SIZE>,
-    mut take: impl FnMut(usize, &'a [u8; SIZE]),
-) -> Result<(), Refusal> {
-    let mut rest = entries.rows();
-    let mut next = rest.next();
-    for (row, node) in network.nodes().enumerate() {
-        if !node.is_own() {
-            continue;
-        }
-        let id = node.id();
-        while next.is_some_and(|entry| Entries::id(entry) < id) {
-            next = rest.next();
-        }
-        match next {
-            Some(entry) if Entries::id(entry) == id => take(row, entry),
-            _ => return refuse(17, id.into()),
-        }
-    }
-    Ok(())
-}
+pub use view::{Edge, Entries, Network, Node, Table};
 
 /// Reads a network and fills the table, or gives the first of the refusals 1 to 10.
 #[inline]
 pub fn read_network<'a>(bytes: &'a [u8], table: &mut Table) -> Result<Network<'a>, Refusal> {
-    check_frame(bytes, 1, NETWORK_HEAD, network_counts)?;
+    let form = check_frame(bytes, 1, NETWORK_HEAD, network_total)?;
     let (policies, nodes, _) = counts(bytes);
-    let (policy_part, rest) = bytes[NETWORK_HEAD..].split_at(POLICY * policies);
-    let (node_part, edge_part) = rest.split_at(NODE * nodes);
+    let first_node = form.network(policies, 0, 0);
+    let first_edge = form.network(policies, nodes, 0);
     let network = Network {
-        policies: policy_part,
-        nodes: node_part,
-        edges: edge_part,
+        form,
+        policies: &bytes[NETWORK_HEAD..first_node],
+        nodes: &bytes[first_node..first_edge],
+        edges: &bytes[first_edge..],
     };
-    let first_node = NETWORK_HEAD + POLICY * policies;
-    check_policies(policy_part)?;
-    check_nodes(node_part, first_node, table)?;
-    let sends = check_edges(&network, first_node + NODE * nodes, table)?;
-    for (row, node) in network.nodes().enumerate() {
-        if !node.is_own() && !sends[row] {
-            return refuse(10, first_node + NODE * row);
-        }
+    check_policies(network.policies)?;
+    check_nodes(&network, first_node, table)?;
+    let sends = check_edges(&network, first_edge, table)?;
+    match (0..nodes).find(|&row| !table.is_own(row) && !sends[row]) {
+        Some(row) => refuse(10, form.network(policies, row, 0)),
+        None => Ok(network),
     }
-    Ok(network)
 }
 
 /// Whether a network is sound, for a caller who wants no more than that.
@@ -114,35 +43,25 @@ pub fn check_network(bytes: &[u8]) -> Result<(), Refusal> {
     read_network(bytes, &mut Table::empty()).map(|_| ())
 }
 
-/// Reads a sheet, or gives the first of the refusals 11 to 16.
-pub fn read_sheet(bytes: &[u8]) -> Result<Sheet<'_>, Refusal> {
-    read_entries(bytes, |entry: &[u8; SHEET_ENTRY]| entry[2] <= LAST_FRAGMENT)
-}
-
-/// Reads a route list, or gives the first of the refusals 11 to 16.
-pub fn read_list(bytes: &[u8]) -> Result<List<'_>, Refusal> {
-    read_entries(bytes, |_: &[u8; LIST_ENTRY]| true)
-}
-
-/// The refusals 1 to 5, or 11 to 15: `first` is the number of the first of the five. `total`
-/// tells the bytes that the counts ask for, or nothing where a count is over its bound.
+/// The record's form, or the refusals 1 to 5, or 11 to 15: `first` is the number of the first of
+/// the five. `total` tells the bytes that the counts ask for, or nothing where a count is over its
+/// bound.
 fn check_frame(
     bytes: &[u8],
     first: u8,
     head: usize,
-    total: impl Fn(&[u8]) -> Option<usize>,
-) -> Result<(), Refusal> {
+    total: impl Fn(Form, &[u8]) -> Option<usize>,
+) -> Result<Form, Refusal> {
     if bytes.len() < head {
         return refuse(first, bytes.len());
     }
-    if bytes[4] != VERSION {
-        return refuse(first + 1, 4);
-    }
-    let Some(total) = total(bytes) else {
-        return refuse(first + 2, 5);
+    let Some(form) = Form::of(bytes) else {
+        return refuse(first + 1, VERSION_AT);
     };
-    let [b3, b2, b1, b0] = *part_at(bytes, 0);
-    if u32::from_be_bytes([b3, b2, b1, b0]) as usize != total - 4 {
+    let Some(total) = total(form, bytes) else {
+        return refuse(first + 2, COUNT_AT);
+    };
+    if u32::from_be_bytes(*part_at(bytes, 0)) as usize != total - 4 {
         return refuse(first + 3, 0);
     }
     if bytes.len() < total {
@@ -151,20 +70,25 @@ fn check_frame(
     if bytes.len() > total {
         return refuse(first + 4, total);
     }
-    Ok(())
+    Ok(form)
 }
 
 /// Policy, node and edge count.
 fn counts(bytes: &[u8]) -> (usize, usize, usize) {
-    let nodes = number_at(bytes, 5).into();
-    let edges = number_at(bytes, 7).into();
-    (bytes[9].into(), nodes, edges)
+    let nodes = number_at(bytes, COUNT_AT).into();
+    let edges = number_at(bytes, COUNT_AT + 2).into();
+    (bytes[COUNT_AT + 4].into(), nodes, edges)
 }
 
-fn network_counts(bytes: &[u8]) -> Option<usize> {
+fn network_total(form: Form, bytes: &[u8]) -> Option<usize> {
     let (policies, nodes, edges) = counts(bytes);
-    let bounded = policies <= MOST_POLICIES && nodes <= MOST_NODES && edges <= MOST_EDGES;
-    bounded.then(|| network_total(policies, nodes, edges))
+    let bounded = policies <= MOST_POLICIES && nodes <= form.most && edges <= MOST_EDGES;
+    bounded.then(|| form.network(policies, nodes, edges))
+}
+
+fn entries_total<const LEAD: usize>(form: Form, bytes: &[u8]) -> Option<usize> {
+    let count = number_at(bytes, COUNT_AT).into();
+    (count <= form.most).then(|| form.entries(LEAD, count))
 }
 
 fn check_policies(part: &[u8]) -> Result<(), Refusal> {
@@ -178,59 +102,47 @@ fn check_policies(part: &[u8]) -> Result<(), Refusal> {
 
 /// The refusals 7 and 8; `first` is the offset of the node part. An id that does not rise makes
 /// the later of the two nodes ill formed.
-fn check_nodes(part: &[u8], first: usize, table: &mut Table) -> Result<(), Refusal> {
+fn check_nodes(network: &Network, first: usize, table: &mut Table) -> Result<(), Refusal> {
     let mut lowest = 0;
-    let mut own = 0;
-    for (row, node) in rows(part).map(Node).enumerate() {
+    for (row, node) in network.nodes().enumerate() {
         let id = node.id();
         if u32::from(id) < lowest || !node_well_formed(node) {
-            return refuse(7, first + NODE * row);
+            return refuse(7, first + network.form.node() * row);
         }
         lowest = u32::from(id) + 1;
-        own += usize::from(node.is_own());
-        table.put(id, row);
+        table.put(row, node);
     }
-    match own {
-        0 => refuse(8, first),
-        _ => Ok(()),
+    if !table.has_own() {
+        return refuse(8, first);
     }
+    Ok(())
 }
 
 /// All that the bytes of a node must satisfy, apart from the order of ids.
 fn node_well_formed(node: Node) -> bool {
-    let [kind, flag, demand] = [at::KIND, at::FLAG, at::DEMAND].map(|field| node.0[field]);
-    let asks = node.0[at::CEILING..NODE] != [0; 4];
-    let promised = node.promised_bytes();
-    let promise = match flag {
-        0 => *promised == route::NO_ROUTE,
-        1 => route::well_formed(promised),
+    let [demand, asks @ ..] = *node.asks;
+    let promise = match node.flag {
+        0 => route::is_none(node.promised_bytes),
+        1 => route::well_formed(node.promised_bytes),
         _ => false,
     };
     let demanded = match demand {
-        0 | 2 => !asks,
+        0 | 2 => asks == [0; 4],
         1 => true,
         _ => false,
     };
-    let kind = match kind {
+    let kind = match node.kind() {
         0 => true,
-        1 => flag == 0 && demand == 0,
+        1 => node.flag == 0 && demand == 0,
         _ => false,
     };
-    kind && promise && demanded && route::well_formed(node.route_bytes())
+    kind && promise && demanded && route::well_formed(node.route_bytes)
 }
 
 /// Refusal 9, or which nodes have an edge out; `first` is the offset of the edge part.
-fn check_edges(
-    network: &Network,
-    first: usize,
-    table: &Table,
-) -> Result<[bool; MOST_NODES], Refusal> {
+fn check_edges(network: &Network, first: usize, table: &Table) -> Result<[bool; MOST], Refusal> {
     let policies = network.policies().len();
-    let mut own = [false; MOST_NODES];
-    for (row, node) in network.nodes().enumerate() {
-        own[row] = node.is_own();
-    }
-    let mut sends = [false; MOST_NODES];
+    let mut sends = [false; MOST];
     let mut lowest = 0;
     for (row, edge) in network.edges().enumerate() {
         let order = u64::from(edge.to) << 16 | u64::from(edge.from);
@@ -239,7 +151,7 @@ fn check_edges(
             return refuse(9, first + EDGE * row);
         };
         let known = usize::from(edge.policy) < policies;
-        if order < lowest || to == from || !own[to] || !known {
+        if order < lowest || to == from || !table.is_own(to) || !known {
             return refuse(9, first + EDGE * row);
         }
         lowest = order + 1;
@@ -248,24 +160,20 @@ fn check_edges(
     Ok(sends)
 }
 
-/// The refusals 11 to 16. Every entry is looked at, also one for an id that no own node has.
-fn read_entries<const SIZE: usize>(
-    bytes: &[u8],
-    middle: impl Fn(&[u8; SIZE]) -> bool,
-) -> Result<Entries<'_, SIZE>, Refusal> {
-    check_frame(bytes, 11, ENTRIES_HEAD, |bytes| {
-        let count = usize::from(number_at(bytes, 5));
-        (count <= MOST_ENTRIES).then(|| ENTRIES_HEAD + SIZE * count)
-    })?;
+/// Reads a sheet or list, or gives the first of the refusals 11 to 16. Every entry is looked at,
+/// also one for an id that no own node has.
+pub fn read_entries<const LEAD: usize>(bytes: &[u8]) -> Result<Entries<'_, LEAD>, Refusal> {
+    let form = check_frame(bytes, 11, ENTRIES_HEAD, entries_total::<LEAD>)?;
     let entries = Entries {
+        form,
         part: &bytes[ENTRIES_HEAD..],
     };
     let mut lowest = 0;
     for (row, entry) in entries.rows().enumerate() {
         let id = u32::from(number_at(entry, 0));
-        let route = Entries::route_bytes(entry);
-        if id < lowest || !middle(entry) || !route::well_formed(route) {
-            return refuse(16, ENTRIES_HEAD + SIZE * row);
+        let numbered = LEAD != SHEET_LEAD || entry[FRAGMENT] <= LAST_FRAGMENT;
+        if id < lowest || !numbered || !route::well_formed(&entry[LEAD..]) {
+            return refuse(16, form.entries(LEAD, row));
         }
         lowest = id + 1;
     }

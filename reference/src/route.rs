@@ -3,13 +3,10 @@
 //!
 //! "No route" is a value like any other, so a route is an `Option<Route>` wherever one stands.
 
-/// Bytes of a route in a record.
-pub const ROUTE: usize = 9;
-/// Bytes of a policy in a record.
-pub const POLICY: usize = 13;
+use crate::form::{Form, POLICY};
 
-/// No route, as a record has it.
-pub const NO_ROUTE: [u8; ROUTE] = [0; ROUTE];
+/// The highest cost that a wire may give.
+pub const TOP: u16 = 65_535;
 
 /// A present route: preference, cost, origin and tags as one number, as the eight bytes behind
 /// the present byte spell it. Two routes are then compared in one step.
@@ -67,24 +64,48 @@ pub fn better(one: Option<Route>, other: Option<Route>) -> Option<Route> {
     }
 }
 
-/// True of the nine bytes of a route, and of no route: a byte behind a zero present byte would
-/// make a second spelling of "none".
-pub fn well_formed(bytes: &[u8; ROUTE]) -> bool {
-    bytes[0] == 1 || *bytes == NO_ROUTE
+/// The first eight bytes of a route. With the fields they are all of it, since a route has no
+/// more than sixteen.
+fn first(bytes: &[u8]) -> &[u8; 8] {
+    bytes.first_chunk().expect("eight bytes and more")
+}
+
+/// The fields, which are the last eight bytes.
+fn fields(bytes: &[u8]) -> &[u8; 8] {
+    bytes.last_chunk().expect("eight bytes and more")
+}
+
+/// True of the bytes of no route, which are all zero.
+pub fn is_none(bytes: &[u8]) -> bool {
+    u64::from_be_bytes(*first(bytes)) | u64::from_be_bytes(*fields(bytes)) == 0
+}
+
+/// True of the bytes of a route, and of no route: a byte behind a zero present byte would make a
+/// second spelling of "none".
+pub fn well_formed(bytes: &[u8]) -> bool {
+    (bytes[0] == 1) | is_none(bytes)
 }
 
 /// The route that well-formed bytes stand for.
-pub fn read(bytes: &[u8; ROUTE]) -> Option<Route> {
-    let [present, fields @ ..] = *bytes;
-    (present == 1).then_some(Route(u64::from_be_bytes(fields)))
+pub fn read(bytes: &[u8]) -> Option<Route> {
+    (bytes[0] == 1).then_some(Route(u64::from_be_bytes(*fields(bytes))))
 }
 
-/// The nine bytes of a route.
-pub fn bytes(route: Option<Route>) -> [u8; ROUTE] {
-    let mut bytes = NO_ROUTE;
+/// Copies the bytes of a route.
+#[inline]
+pub fn copy(from: &[u8], to: &mut [u8]) {
+    let (start, end) = (first(from), fields(from));
+    to[..8].copy_from_slice(start);
+    let width = to.len();
+    to[width - 8..].copy_from_slice(end);
+}
+
+/// The bytes of a route in a record of this form.
+pub fn bytes(form: Form, route: Option<Route>) -> Vec<u8> {
+    let mut bytes = vec![0; form.route];
     if let Some(Route(fields)) = route {
         bytes[0] = 1;
-        bytes[1..].copy_from_slice(&fields.to_be_bytes());
+        bytes[form.route - 8..].copy_from_slice(&fields.to_be_bytes());
     }
     bytes
 }
@@ -138,18 +159,18 @@ impl Policy {
 }
 
 /// The route that arrives over a wire with this policy. Need and bar look at the tags as they
-/// arrive, before clear and set; a cost too large for 16 bits stops the route, since a wrapped
-/// one would turn the worst route into the best. The tests are joined without branches, which
-/// would be mispredicted at every other wire.
-pub fn carry(policy: &Policy, route: Option<Route>) -> Option<Route> {
+/// arrive, before clear and set; a cost over `top` stops the route. The tests are joined without
+/// branches, which would be mispredicted at every other wire.
+pub fn carry(policy: &Policy, route: Option<Route>, top: u16) -> Option<Route> {
     let route = route?;
     let tags = route.tags();
-    let (cost, over) = route.cost().overflowing_add(policy.cost);
+    let cost = u32::from(route.cost()) + u32::from(policy.cost);
     let lacks = tags & policy.need != policy.need;
     let barred = tags & policy.bar != 0;
+    let over = cost > u32::from(top);
     (!(lacks | barred | over)).then_some(Route::new(
         policy.preference.unwrap_or(route.preference()),
-        cost,
+        cost as u16,
         route.origin(),
         tags & !policy.clear | policy.set,
     ))

@@ -1,6 +1,7 @@
 //! Scenes: a shape dressed with ids, policies and routes, settled, and then given promises and
 //! demands that fit what the boxes hold.
 
+use crate::form::Form;
 use crate::plan::{Listed, Node, Noted, Plan};
 use crate::random::Random;
 use crate::route::{Promise, Route};
@@ -36,6 +37,9 @@ pub enum Style {
 
 #[derive(Clone, Copy, Debug)]
 pub struct Dress {
+    pub form: Form,
+    /// No wire gives a cost over this.
+    pub top: u16,
     pub ids: Ids,
     pub style: Style,
     pub policies: usize,
@@ -72,6 +76,7 @@ pub fn dress(shape: &Shape, dress: &Dress, random: &mut Random) -> Scene {
         .map(|_| random.below(shape.boxes))
         .collect();
     let mut plan = Plan {
+        form: dress.form,
         policies: (0..dress.policies)
             .map(|_| policy(dress.style, random))
             .collect(),
@@ -90,7 +95,7 @@ pub fn dress(shape: &Shape, dress: &Dress, random: &mut Random) -> Scene {
         let policy = random.below(dress.policies) as u8;
         plan.wire(ids[from], ids[to], policy);
     }
-    let (held, settled) = settle::settle(&plan, ROUNDS);
+    let (held, settled) = settle::settle(&plan, dress.top, ROUNDS);
     Scene {
         plan,
         held,

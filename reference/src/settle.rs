@@ -4,8 +4,9 @@
 use crate::plan::{Listed, Plan};
 use crate::route::{better, carry, Route};
 
-/// The routes by row (inputs hold their assumed ones), and whether they came to rest.
-pub fn settle(plan: &Plan, rounds: usize) -> (Vec<Option<Route>>, bool) {
+/// The routes by row (inputs hold their assumed ones), and whether they came to rest. No wire
+/// gives a cost over `top`.
+pub fn settle(plan: &Plan, top: u16, rounds: usize) -> (Vec<Option<Route>>, bool) {
     let mut incoming = vec![Vec::new(); plan.nodes.len()];
     for edge in &plan.edges {
         if let (Some(to), Some(from)) = (plan.row(edge.to), plan.row(edge.from)) {
@@ -19,7 +20,7 @@ pub fn settle(plan: &Plan, rounds: usize) -> (Vec<Option<Route>>, bool) {
             let due = incoming[row]
                 .iter()
                 .fold(node.route, |best, (from, policy)| {
-                    better(best, carry(policy, held[*from]))
+                    better(best, carry(policy, held[*from], top))
                 });
             changed |= due != held[row];
             held[row] = due;

@@ -4,10 +4,11 @@ mod shared;
 
 use reference::cut::cut;
 use reference::known::{self, AROUND, STRAIGHT};
-use reference::plan::{sheet_record, Listed, Node, Plan};
-use reference::record::{check_network, Refusal};
-use reference::route::{better, carry, Demand, Policy, Promise, Route};
-use shared::{cut_line, judge};
+use reference::plan::{Listed, Node, Plan};
+use reference::record::check_network;
+use reference::refusal::Refusal;
+use reference::route::{better, carry, Demand, Policy, Promise, Route, TOP};
+use shared::{cut_line, judge, refused, sheet_record};
 
 fn route(preference: u16, cost: u16, origin: u16, tags: u16) -> Route {
     Route::new(preference, cost, origin, tags)
@@ -29,7 +30,7 @@ fn lower_origin_beats_higher() {
 
 #[test]
 fn cost_adds_up_to_65535_and_no_further() {
-    let add = |cost, more| carry(&Policy::adding(more), Some(route(100, cost, 1, 0)));
+    let add = |cost, more| carry(&Policy::adding(more), Some(route(100, cost, 1, 0)), TOP);
     assert_eq!(add(65_534, 1), Some(route(100, 65_535, 1, 0)));
     assert_eq!(add(65_535, 1), None);
     assert_eq!(add(65_535, 0), Some(route(100, 65_535, 1, 0)));
@@ -38,7 +39,7 @@ fn cost_adds_up_to_65535_and_no_further() {
 #[test]
 fn tags_over_a_wire() {
     let plain = Policy::default();
-    let over = |policy: Policy, tags| carry(&policy, Some(route(1, 1, 1, tags)));
+    let over = |policy: Policy, tags| carry(&policy, Some(route(1, 1, 1, tags)), TOP);
     let change = Policy {
         clear: 3,
         set: 1,
@@ -90,7 +91,7 @@ fn chain_record_and_its_fragments() {
     let mut last = Plan {
         policies: plan.policies.clone(),
         nodes: vec![Node::input(2, Some(STRAIGHT)), plan.nodes[2].clone()],
-        edges: vec![],
+        ..Plan::default()
     };
     // The wire back to 2 is cut, too, so 3 has to promise its note.
     last.nodes[1].promise = Promise::Holds(Some(route(100, 2, 1, 0)));
@@ -138,11 +139,7 @@ fn many(count: u16) -> Plan {
 #[test]
 fn nodes_512_and_513() {
     assert_eq!(check_network(&many(512).record()), Ok(()));
-    let refusal = Refusal {
-        number: 3,
-        place: 5,
-    };
-    assert_eq!(check_network(&many(513).record()), Err(refusal));
+    assert_eq!(check_network(&many(513).record()), refused(3, 5));
 }
 
 #[test]

@@ -2,17 +2,21 @@
 
 mod shared;
 
-use reference::bench;
+use reference::bench::{self, Load};
+use reference::call::{CUT, JUDGE};
+use reference::form::{Form, FORMS, LIST_LEAD, SHEET_LEAD, VERSION_1};
 use reference::known;
-use reference::plan::{list_record, sheet_record, Node, Plan};
-use reference::program::{cut_bytes, judge_bytes, split, CUT_BOUND, JUDGE_BOUND};
-use reference::record::{self, check_network, read_list, read_sheet};
+use reference::plan::{self, Node, Plan};
+use reference::program::split;
+use reference::record::{check_network, read_entries};
 use reference::route::Policy;
-use shared::{judge_records, line, refused};
+use shared::{cut_bytes, judge_bytes, judge_records, line, list_record, refused};
 
 /// Own nodes, each with wires from those that follow it (round the end), and policies.
-fn dense(nodes: u16, edges: usize, policies: usize) -> Plan {
+fn dense(form: Form, nodes: usize, edges: usize, policies: usize) -> Plan {
+    let nodes = nodes as u16;
     let mut plan = Plan {
+        form,
         policies: vec![Policy::adding(1); policies],
         nodes: (0..nodes).map(|id| Node::own(id, None)).collect(),
         edges: vec![],
@@ -26,32 +30,50 @@ fn dense(nodes: u16, edges: usize, policies: usize) -> Plan {
 }
 
 #[test]
-fn sizes_of_the_largest_records() {
-    assert_eq!(record::LARGEST_NETWORK, 35_146);
-    assert_eq!(record::LARGEST_SHEET, 6_151);
-    assert_eq!(record::LARGEST_LIST, 5_639);
-    assert_eq!((JUDGE_BOUND, CUT_BOUND), (40_785, 41_298));
-    let largest = dense(512, 4_096, 64).record();
-    assert_eq!(largest.len(), 35_146);
-    assert_eq!(check_network(&largest), Ok(()));
+fn sizes_of_document_01() {
+    let form = VERSION_1;
+    assert_eq!((form.version, form.route, form.most), (1, 9, 512));
+    assert_eq!(form.node(), 27);
+    let [list, sheet] = [LIST_LEAD, SHEET_LEAD].map(|lead| form.entry(lead));
+    assert_eq!((list, sheet), (11, 12));
+    assert_eq!(form.largest_network(), 35_146);
+    let [list, sheet] = [LIST_LEAD, SHEET_LEAD].map(|lead| form.largest_entries(lead));
+    assert_eq!((list, sheet), (5_639, 6_151));
+    assert_eq!((JUDGE.bound(), CUT.bound()), (Some(40_785), Some(41_298)));
+}
+
+/// A route is read as its first eight bytes and its last eight.
+#[test]
+fn a_route_has_nine_to_sixteen_bytes() {
+    assert!(FORMS.iter().all(|form| (9..=16).contains(&form.route)));
 }
 
 #[test]
-fn counts_one_over() {
-    assert_eq!(check_network(&dense(513, 4, 1).record()), refused(3, 5));
-    assert_eq!(
-        check_network(&dense(512, 4_097, 64).record()),
-        refused(3, 5)
-    );
-    assert_eq!(
-        check_network(&dense(512, 4_096, 65).record()),
-        refused(3, 5)
-    );
-    let list = |count| list_record(&(0..count).map(|id| (id, None)).collect::<Vec<_>>());
-    let sheet = |count| sheet_record(&(0..count).map(|id| (id, 63, None)).collect::<Vec<_>>());
-    assert!(read_list(&list(512)).is_ok() && read_sheet(&sheet(512)).is_ok());
-    assert_eq!(read_list(&list(513)).map(|_| ()), refused(13, 5));
-    assert_eq!(read_sheet(&sheet(513)).map(|_| ()), refused(13, 5));
+fn counts_at_the_bound_and_one_over() {
+    for form in FORMS {
+        let check = |nodes, edges, policies| {
+            let record = dense(form, nodes, edges, policies).record();
+            check_network(&record)
+        };
+        let largest = dense(form, form.most, 4_096, 64).record();
+        assert_eq!(largest.len(), form.largest_network());
+        assert_eq!(check(form.most, 4_096, 64), Ok(()));
+        assert_eq!(check(form.most + 1, 4, 1), refused(3, 5));
+        assert_eq!(check(form.most, 4_097, 64), refused(3, 5));
+        assert_eq!(check(form.most, 4_096, 65), refused(3, 5));
+        let ids = |count: usize| 0..count as u16;
+        let list = |count| {
+            let entries: Vec<_> = ids(count).map(|id| (id, None)).collect();
+            read_entries::<LIST_LEAD>(&plan::list_record(form, &entries)).map(|_| ())
+        };
+        let sheet = |count| {
+            let entries: Vec<_> = ids(count).map(|id| (id, 63, None)).collect();
+            read_entries::<SHEET_LEAD>(&plan::sheet_record(form, &entries)).map(|_| ())
+        };
+        assert_eq!((list(form.most), sheet(form.most)), (Ok(()), Ok(())));
+        assert_eq!(list(form.most + 1), refused(13, 5));
+        assert_eq!(sheet(form.most + 1), refused(13, 5));
+    }
 }
 
 #[test]
@@ -72,34 +94,29 @@ fn lowest_and_highest_id() {
 
 #[test]
 fn inputs_of_the_most_bytes_and_of_one_more() {
-    let load = &bench::loads()[0];
-    let mut input = load.judge_input();
-    assert_eq!(input.len(), 40_785);
-    assert_eq!(line(&judge_bytes(&input)), "pass 512");
-    input.push(0);
-    assert_eq!(line(&judge_bytes(&input)), "refused 5 40785");
-    let mut input = load.whole_input();
-    assert_eq!(input.len(), 41_298);
-    assert_eq!(cut_bytes(&input), load.network);
-    input.push(0);
-    assert_eq!(line(&cut_bytes(&input)), "refused 5 41298");
+    let largest = FORMS.into_iter().max_by_key(|form| form.largest_network());
+    let load = &bench::loads(largest.expect("a form"))[0];
+    for (call, mut input, answer) in [
+        (JUDGE, load.judge_input(), pass(load)),
+        (CUT, load.whole_input(), load.network.clone()),
+    ] {
+        let bound = call.bound().expect("a program's bound");
+        assert_eq!(input.len(), bound);
+        assert!(call.answer(&input) == answer, "{}", call.name);
+        input.push(0);
+        assert_eq!(line(&call.answer(&input)), format!("refused 5 {bound}"));
+    }
 }
 
 #[test]
 fn over_size_comes_before_all_else() {
-    for length in [40_785, 40_786, 41_298, 41_299, 1_000_000] {
-        let zeros = vec![0; length];
-        let judged = line(&judge_bytes(&zeros));
-        let cut = line(&cut_bytes(&zeros));
-        let small = "refused 1 4";
-        assert_eq!(
-            judged,
-            [small, "refused 5 40785"][usize::from(length > 40_785)]
-        );
-        assert_eq!(
-            cut,
-            [small, "refused 5 41298"][usize::from(length > 41_298)]
-        );
+    for call in [JUDGE, CUT] {
+        let bound = call.bound().expect("a program's bound");
+        let zeros = |length| line(&call.answer(&vec![0; length]));
+        assert_eq!(zeros(bound), "refused 1 4");
+        for length in [bound + 1, 1_000_000] {
+            assert_eq!(zeros(length), format!("refused 5 {bound}"));
+        }
     }
 }
 
@@ -159,16 +176,20 @@ fn bytes_between_the_records_are_the_second_ones() {
     assert_eq!(line(&judge_bytes(&longer)), "refused 15 40");
 }
 
+/// The judge's answer to a load, of which all boxes are own.
+fn pass(load: &Load) -> Vec<u8> {
+    format!("pass {}\n", load.boxes).into_bytes()
+}
+
 #[test]
 fn the_timed_records_are_the_largest_and_pass() {
-    let loads = bench::loads();
+    let loads = bench::loads(VERSION_1);
     let sizes: Vec<_> = loads.iter().map(|load| (load.boxes, load.wires)).collect();
     assert_eq!(sizes[..3], [(512, 4_096), (512, 4_096), (320, 4_096)]);
     let wires: Vec<_> = sizes[3..].iter().map(|(_, wires)| *wires).collect();
     assert_eq!(wires, [512, 1_024, 2_048, 4_096]);
     for load in loads {
-        let answer = line(&judge_bytes(&load.judge_input()));
-        assert_eq!(answer, format!("pass {}", load.boxes), "{}", load.name);
+        assert!(judge_bytes(&load.judge_input()) == pass(&load));
         let fragment = cut_bytes(&load.cut_input());
         assert_eq!(check_network(&fragment), Ok(()), "{}", load.name);
         assert_eq!(cut_bytes(&load.whole_input()), load.network);

@@ -1,18 +1,20 @@
 //! The example plans next to this package: the stored answers are the ones given today.
 
+use reference::call::{CUT, JUDGE};
 use reference::cases::examples;
+use std::collections::BTreeMap;
 use std::ffi::OsString;
 use std::fs;
 
 #[test]
 fn stored_answers_of_the_example_plans() {
-    let mut answered = [0, 0];
+    let mut answered = BTreeMap::new();
     for (path, call, input) in examples::plans() {
         let mut stored = OsString::from(&path);
         stored.push(".out");
         let stored = fs::read(stored).expect("its answer");
         assert_eq!(call.answer(&input), stored, "{path:?}");
-        answered[call as usize] += 1;
+        *answered.entry(call.name).or_insert(0) += 1;
     }
-    assert!(answered[0] >= 20 && answered[1] >= 20, "{answered:?}");
+    assert!([JUDGE, CUT].iter().all(|call| answered[call.name] >= 20));
 }

@@ -4,9 +4,9 @@ mod shared;
 
 use reference::judge::{judge as verdict, neighbour, Fault, Verdict};
 use reference::known::{self, START, STRAIGHT};
-use reference::plan::{list_record, Listed, Node, Plan};
-use reference::route::{carry, Demand, Policy, Promise, Route};
-use shared::{cut, judge, judge_records};
+use reference::plan::{Listed, Node, Plan};
+use reference::route::{carry, Demand, Policy, Promise, Route, TOP};
+use shared::{cut, judge, judge_records, list_record};
 
 fn route(cost: u16) -> Option<Route> {
     Some(Route::new(100, cost, 1, 0))
@@ -91,7 +91,7 @@ fn with_inputs() -> Plan {
             Node::input(7, None),
             Node::own(9, None),
         ],
-        edges: vec![],
+        ..Plan::default()
     };
     plan.wire(2, 5, 0);
     plan.wire(7, 5, 0);
@@ -127,7 +127,7 @@ fn entries_of_others_are_not_read() {
 fn verdicts_hold_what_the_line_says() {
     let network = known::chain().record();
     let mut list = known::chain_list();
-    let pass = verdict(&network, &list_record(&list));
+    let pass = verdict(&network, &list_record(&list), TOP);
     assert_eq!(pass, Verdict::Pass { judged: 3 });
     list[2].1 = None;
     let found = Verdict::Found {
@@ -135,8 +135,8 @@ fn verdicts_hold_what_the_line_says() {
         judged: 3,
         fault: Fault::NotDue(route(2)),
     };
-    assert_eq!(verdict(&network, &list_record(&list)), found);
-    assert_eq!(verdict(&network, &[]).judged(), 0);
+    assert_eq!(verdict(&network, &list_record(&list), TOP), found);
+    assert_eq!(verdict(&network, &[], TOP).judged(), 0);
 }
 
 #[test]
@@ -230,7 +230,10 @@ fn a_fragment_keeps_one_direction_of_a_cut_wire() {
 #[test]
 fn cost_does_not_wrap() {
     for (cost, more) in [(65_535, 1), (1, 65_535), (65_535, 65_535), (40_000, 25_536)] {
-        assert_eq!(carry(&Policy::adding(more), route(cost)), None);
+        assert_eq!(carry(&Policy::adding(more), route(cost), TOP), None);
     }
-    assert_eq!(carry(&Policy::adding(25_535), route(40_000)), route(65_535));
+    assert_eq!(
+        carry(&Policy::adding(25_535), route(40_000), TOP),
+        route(65_535)
+    );
 }

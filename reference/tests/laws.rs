@@ -3,21 +3,24 @@
 mod shared;
 
 use reference::cases::inputs;
+use reference::form::FORMS;
 use reference::plan::{list_record, sheet_record, Listed, Noted};
 use reference::random::Random;
-use reference::record::check_network;
-use reference::route::{self, better, carry, Policy, Route};
+use reference::record::{read_network, Table};
+use reference::route::{self, better, carry, Policy, Route, TOP};
 use reference::scene::{self, other_route, Scene, Style};
 use shared::{cut_records, judge_records};
 use std::collections::{BTreeMap, BTreeSet};
 
 const TRIES: usize = 3_000;
 
+/// A scene of any form.
 fn some_scene(random: &mut Random) -> Scene {
+    let form = *random.pick(&FORMS);
     let mut scene = if random.one_in(40) {
-        inputs::middling(random)
+        inputs::middling(form, random)
     } else {
-        inputs::small(random)
+        inputs::small(form, random)
     };
     if random.one_in(2) {
         scene.ask(3, random);
@@ -60,7 +63,7 @@ fn all_boxes_in_fragment_0_give_the_same_bytes() {
     let random = &mut Random::new(1);
     for _ in 0..TRIES {
         let scene = some_scene(random);
-        let sheet = sheet_record(&scene.sheet(&vec![0; scene.held.len()]));
+        let sheet = sheet_record(scene.plan.form, &scene.sheet(&vec![0; scene.held.len()]));
         let network = scene.plan.record();
         assert_eq!(cut_records(&network, 0, &sheet), network);
     }
@@ -75,9 +78,9 @@ fn fragments_and_whole() {
     for _ in 0..TRIES {
         let scene = some_scene(random);
         let (sheet, list) = (some_sheet(&scene, random), some_list(&scene, random));
-        let (network, lent) = (scene.plan.record(), list_record(&list));
+        let (network, lent) = (scene.plan.record(), list_record(scene.plan.form, &list));
         let numbers: BTreeSet<u8> = sheet.iter().map(|entry| entry.1).collect();
-        let record = sheet_record(&sheet);
+        let record = sheet_record(scene.plan.form, &sheet);
         let cut = |number: &u8| cut_records(&network, *number, &record);
         let fragments: Vec<_> = numbers.iter().map(cut).collect();
         if !fragments.iter().all(|fragment| is_fragment(fragment)) {
@@ -113,17 +116,14 @@ fn fragments_cover_the_network() {
         let scene = some_scene(random);
         let numbers = few_numbers(&scene, random);
         let sheet = scene.sheet(&numbers);
-        let record = sheet_record(&sheet);
+        let record = sheet_record(scene.plan.form, &sheet);
         let (mut own, mut edges) = (0, 0);
         for number in sheet.iter().map(|entry| entry.1).collect::<BTreeSet<u8>>() {
             let fragment = cut_records(&scene.plan.record(), number, &record);
-            assert_eq!(check_network(&fragment), Ok(()));
-            let count =
-                |high: usize| usize::from(fragment[high]) << 8 | usize::from(fragment[high + 1]);
-            let first = 10 + 13 * usize::from(fragment[9]);
-            let nodes = fragment[first..].chunks(27).take(count(5));
-            own += nodes.filter(|node| node[2] == 0).count();
-            edges += count(7);
+            let read = read_network(&fragment, &mut Table::empty());
+            let network = read.expect("a sound network");
+            own += network.nodes().filter(|node| node.is_own()).count();
+            edges += network.edges().len();
         }
         assert_eq!(own, sheet.len());
         assert_eq!(edges, scene.plan.edges.len());
@@ -145,7 +145,7 @@ fn two_sheets_and_their_meet() {
             let mut sheet = scene.sheet(numbers);
             let noted = sheet.iter_mut().zip(&notes);
             noted.for_each(|(entry, note)| entry.2 = note.2);
-            sheet_record(&sheet)
+            sheet_record(scene.plan.form, &sheet)
         };
         let (first, second, meet) = (sheet(&one), sheet(&other), sheet(&both));
         let network = scene.plan.record();
@@ -172,7 +172,8 @@ fn lists_that_agree_get_the_same_answer() {
         let scene = some_scene(random);
         let sheet = scene.sheet(&few_numbers(&scene, random));
         let asked = random.pick(&sheet).1;
-        let fragment = cut_records(&scene.plan.record(), asked, &sheet_record(&sheet));
+        let form = scene.plan.form;
+        let fragment = cut_records(&scene.plan.record(), asked, &sheet_record(form, &sheet));
         let list = some_list(&scene, random);
         let mut other = list.clone();
         for (entry, noted) in other.iter_mut().zip(&sheet) {
@@ -186,9 +187,9 @@ fn lists_that_agree_get_the_same_answer() {
             .filter(|(_, noted)| noted.1 == asked || random.one_in(2))
             .map(|(entry, _)| *entry)
             .collect();
-        let answer = judge_records(&fragment, &list_record(&list));
-        assert_eq!(judge_records(&fragment, &list_record(&other)), answer);
-        assert_eq!(judge_records(&fragment, &list_record(&fewer)), answer);
+        let judge = |list: &[Listed]| judge_records(&fragment, &list_record(form, list));
+        assert_eq!(judge(&other), judge(&list));
+        assert_eq!(judge(&fewer), judge(&list));
     }
 }
 
@@ -223,8 +224,11 @@ fn the_better_route() {
         assert_eq!(better(one, other), best);
         assert_eq!(better(other, one), best);
         assert_eq!(better(one, one), one);
-        assert_eq!(route::read(&route::bytes(one)), one);
-        assert!(route::well_formed(&route::bytes(one)));
+        for form in FORMS {
+            let bytes = route::bytes(form, one);
+            assert!(route::well_formed(&bytes));
+            assert_eq!(route::read(&bytes), one);
+        }
     }
 }
 
@@ -239,7 +243,7 @@ fn a_carried_route() {
         let lacks = (0..16).any(|tag| policy.need >> tag & 1 > start.tags() >> tag & 1);
         let barred = (0..16).any(|tag| policy.bar >> tag & start.tags() >> tag & 1 == 1);
         let cost = u32::from(start.cost()) + u32::from(policy.cost);
-        let Some(end) = carry(&policy, Some(start)) else {
+        let Some(end) = carry(&policy, Some(start), TOP) else {
             assert!(lacks || barred || cost > 65_535);
             stopped += 1;
             continue;
@@ -259,5 +263,5 @@ fn a_carried_route() {
         }
     }
     assert!(carried > 1_000 && stopped > 1_000, "{carried} {stopped}");
-    assert_eq!(carry(&Policy::adding(1), None), None);
+    assert_eq!(carry(&Policy::adding(1), None, TOP), None);
 }

@@ -3,11 +3,14 @@
 mod shared;
 
 use reference::cut::cut;
+use reference::form::{LIST_LEAD, SHEET_LEAD};
 use reference::known;
-use reference::plan::{list_record, sheet_record, Node};
-use reference::record::{check_network, read_list, read_sheet, Refusal};
+use reference::plan::Node;
+use reference::record::{check_network, read_entries};
+use reference::refusal::Refusal;
 use reference::route::{Demand, Promise, Route};
 use shared::{cut_line, cut_records, judge, judge_records, line, over, refused};
+use shared::{list_record, sheet_record, unknown_versions};
 
 fn network() -> Vec<u8> {
     known::chain().record()
@@ -22,11 +25,11 @@ fn sheet() -> Vec<u8> {
 }
 
 fn check_list(record: &[u8]) -> Result<(), Refusal> {
-    read_list(record).map(|_| ())
+    read_entries::<LIST_LEAD>(record).map(|_| ())
 }
 
 fn check_sheet(record: &[u8]) -> Result<(), Refusal> {
-    read_sheet(record).map(|_| ())
+    read_entries::<SHEET_LEAD>(record).map(|_| ())
 }
 
 #[test]
@@ -45,7 +48,9 @@ fn numbers_11_to_15_of_a_list_and_a_sheet() {
         for length in 0..total {
             assert_eq!(check(&record[..length]), refused(11, length));
         }
-        assert_eq!(check(&changed(4, &[2])), refused(12, 4));
+        for version in unknown_versions() {
+            assert_eq!(check(&changed(4, &[version])), refused(12, 4));
+        }
         assert_eq!(check(&changed(5, &[2, 1])), refused(13, 5));
         assert_eq!(check(&changed(5, &[2, 0])), refused(14, 0));
         assert_eq!(check(&changed(3, &[0])), refused(14, 0));

@@ -6,7 +6,7 @@ use reference::known;
 use reference::plan::{Node, Plan};
 use reference::record::check_network as check;
 use reference::route::Policy;
-use shared::{over, refused};
+use shared::{over, refused, unknown_versions};
 
 /// In the chain's record: one policy at 10, nodes at 23, 50 and 77, edges from 104 on.
 const POLICY: usize = 10;
@@ -35,10 +35,10 @@ fn number_1_too_short() {
 
 #[test]
 fn number_2_version() {
-    for version in [0, 2, 255] {
+    for version in unknown_versions() {
         assert_eq!(check(&changed(4, &[version])), refused(2, 4));
     }
-    let short = &changed(4, &[2])[..9];
+    let short = &changed(4, &[0])[..9];
     assert_eq!(check(short), refused(1, 9), "under 10 bytes comes first");
 }
 

@@ -1,33 +1,32 @@
 //! The stored cases: enough of each kind, not too many bytes, and always the same.
 
+use reference::call::{Call, CALLS, CUT, JUDGE, LENT};
 use reference::cases;
-use reference::damage::{Call, Input, ALL};
+use reference::damage::ALL;
+use reference::form::{Form, FORMS};
+use reference::input::Input;
 use reference::known;
-use reference::plan::{list_record, sheet_record, Node};
+use reference::plan::{Node, Plan};
 use reference::random::Random;
-use reference::record::LARGEST_NETWORK;
 use std::fs;
 use std::path::Path;
 
 #[test]
 fn enough_of_each_kind() {
     let stream = cases::make();
-    assert!(stream.cases >= 4_000);
-    assert!(stream.inputs.len() + stream.answers.len() < 4_000_000);
-    let given = |kind: &str, call: Call| {
-        let counts = stream.tally.get(kind).copied().unwrap_or_default();
-        counts[call as usize]
-    };
+    assert!(stream.cases.len() >= 4_000);
+    assert!(stream.inputs().len() + stream.answers().len() < 4_000_000);
+    let given = |kind: &str, call: &Call| stream.given(kind, call);
     for kind in ["pass", "found 31", "found 32", "found 33"] {
-        assert!(given(kind, Call::Judge) >= 200, "{kind}");
+        assert!(given(kind, JUDGE) >= 200, "{kind}");
     }
-    assert!(given("fragment", Call::Cut) >= 500);
+    assert!(given("fragment", CUT) >= 500);
     for (kind, least) in [("fragment", 50), ("refused  5", 20), ("refused 20", 50)] {
-        assert!(given(kind, Call::Lent) >= least, "{kind}");
+        assert!(given(kind, LENT) >= least, "{kind}");
     }
     for number in 1..=19 {
         let kind = format!("refused {number:>2}");
-        let (judge, cut) = (given(&kind, Call::Judge), given(&kind, Call::Cut));
+        let (judge, cut) = (given(&kind, JUDGE), given(&kind, CUT));
         // Number 5 is for inputs over the bound, which are big; 18 and 19 are the cutter's.
         let (least, judged) = (if number == 5 { 2 } else { 15 }, number < 18);
         assert!(
@@ -40,14 +39,14 @@ fn enough_of_each_kind() {
 #[test]
 fn at_least_twenty_of_the_largest_size() {
     let stream = cases::make();
-    let (mut rest, mut largest) = (&stream.inputs[..], 0);
-    while let Some((head, more)) = rest.split_first_chunk::<5>() {
-        let [_, l3, l2, l1, l0] = *head;
-        let (input, others) = more.split_at(u32::from_be_bytes([l3, l2, l1, l0]) as usize);
-        largest += usize::from(input.len() > LARGEST_NETWORK);
-        rest = others;
+    for form in FORMS {
+        let large = |form: Form, input: &[u8]| {
+            Form::of(input) == Some(form) && input.len() > form.largest_network()
+        };
+        let inputs = stream.cases.iter().map(|case| &case.input[..]);
+        let largest = inputs.filter(|input| large(form, input)).count();
+        assert!(largest >= 20, "{form:?} {largest}");
     }
-    assert!(largest >= 20, "{largest}");
 }
 
 /// The replay program's files, which the gate runs it on and holds it to.
@@ -55,7 +54,7 @@ fn at_least_twenty_of_the_largest_size() {
 fn stored_files_are_those_made_today() {
     let directory = Path::new(env!("CARGO_MANIFEST_DIR")).join("../crates/replay");
     let stream = cases::make();
-    for (name, made) in [("stdin", stream.inputs), ("stdout", stream.answers)] {
+    for (name, made) in [("stdin", stream.inputs()), ("stdout", stream.answers())] {
         let stored = fs::read(directory.join(name)).expect(name);
         assert!(
             stored == made,
@@ -67,8 +66,25 @@ fn stored_files_are_those_made_today() {
 #[test]
 fn the_same_each_time() {
     let (one, other) = (cases::make(), cases::make());
-    assert!(one.inputs == other.inputs && one.answers == other.answers);
-    assert!(cases::replay(&one.inputs) == one.answers);
+    assert!(one.inputs() == other.inputs() && one.answers() == other.answers());
+    let replayed = cases::replay(&one.inputs()).expect("calls that there are");
+    assert!(replayed == one.answers());
+}
+
+#[test]
+fn a_call_has_one_number_and_one_name() {
+    for (number, call) in (0..).zip(CALLS) {
+        assert_eq!(call.number, number);
+        let [by_number, by_name] = [Call::numbered(number), Call::named(call.name)];
+        assert!(by_number.is_some_and(|found| found.name == call.name));
+        assert!(by_name.is_some_and(|found| found.number == number));
+    }
+}
+
+#[test]
+fn a_case_of_no_call_is_an_error() {
+    let case = [CALLS.len() as u8, 0, 0, 0, 0];
+    assert!(cases::replay(&case).is_err());
 }
 
 /// Each damage, done to an input that is whole, makes it refused or at least another.
@@ -77,11 +93,14 @@ fn damages_damage() {
     let mut plan = known::chain();
     plan.nodes.push(Node::input(4, Some(known::START)));
     plan.wire(4, 3, 0);
-    let network = plan.record();
-    let list = list_record(&known::chain_list());
-    let sheet = sheet_record(&known::chain_sheet());
-    let judge = Input::judge(network.clone(), list);
-    let cut = Input::cut(network, 1, sheet);
+    for form in FORMS {
+        damages_damage_plan(plan.clone().of(form));
+    }
+}
+
+fn damages_damage_plan(plan: Plan) {
+    let judge = Input::judge(&plan, &known::chain_list());
+    let cut = Input::cut(&plan, 1, &known::chain_sheet());
     let random = &mut Random::new(9);
     for (name, damage) in ALL {
         let refused = |whole: &Input, random: &mut Random| {

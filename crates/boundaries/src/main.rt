@@ -1,23 +1,25 @@
 // The greatest records that are read and the least that are not, each made in a buffer, checked, and printed with the
 // number and the place of its refusal, or 0 and 0. What is small is proved in the definitions of `records` instead.
 ghost use Prim.Native.Nat.{_+_, _≤_};
+use layout::Check;
+use layout::LARGEST_NETWORK;
+use layout::number_of;
 use libc::STDOUT_FILENO;
-use records::Check;
+use numbers::put_u16;
+use numbers::put_u32;
 
-// Stores a number as two bytes.
+// Stores a count as two bytes.
 fn put(out: &mut [u8; 40000], at: usize, v: usize)
     requires { ⌜ (at + 2 ≤ 40000) × (v ≤ 65535) ⌝ }
 {
-    out[at] = (v / 256) as u8;
-    out[at + 1] = (v % 256) as u8;
+    put_u16(out, at, v as u16);
 }
 
 // Stores the length of a record and the version.
 fn put_head(out: &mut [u8; 40000], total: usize)
     requires { ⌜ (4 ≤ total) × (total ≤ 40000) ⌝ }
 {
-    put(out, 0, 0);
-    put(out, 2, total - 4);
+    put_u32(out, 0, (total - 4) as u32);
     out[4] = 1;
 }
 
@@ -83,14 +85,15 @@ fn print(n: usize) {
 // Prints what a check finds.
 fn print_check(check: Check) {
     match check {
-        Check::Fine => {
+        Check::Fine(_) => {
             io::write_all(STDOUT_FILENO, b": 0 0\n");
         }
         Check::Refused(refusal) => {
             io::write_all(STDOUT_FILENO, b": ");
-            io::print_decimal(STDOUT_FILENO, records::number_of(refusal) as u64);
+            let class = refusal.class;
+            io::print_decimal(STDOUT_FILENO, number_of(class) as u64);
             io::write_all(STDOUT_FILENO, b" ");
-            io::print_decimal(STDOUT_FILENO, records::place_of(refusal) as u64);
+            io::print_decimal(STDOUT_FILENO, refusal.place as u64);
             io::write_all(STDOUT_FILENO, b"\n");
         }
     }
@@ -105,13 +108,13 @@ fn print_network(out: [u8; 40000], length: usize)
 fn print_list(out: [u8; 40000], length: usize)
     requires { ⌜ length ≤ 40000 ⌝ }
 {
-    print_check(records::check_list(&out[0..length]));
+    print_check(entries::check_list(&out[0..length]));
 }
 
 fn print_sheet(out: [u8; 40000], length: usize)
     requires { ⌜ length ≤ 40000 ⌝ }
 {
-    print_check(records::check_sheet(&out[0..length]));
+    print_check(entries::check_sheet(&out[0..length]));
 }
 
 // A network with these counts.
@@ -174,9 +177,9 @@ fn main() {
     try_network(512, 4096, 64);
     try_length(9);
     try_length(10);
-    try_length(35145);
-    try_length(35146);
-    try_length(35147);
+    try_length(LARGEST_NETWORK - 1);
+    try_length(LARGEST_NETWORK);
+    try_length(LARGEST_NETWORK + 1);
     try_list(0);
     try_list(512);
     try_list(513);

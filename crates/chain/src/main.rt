@@ -6,25 +6,19 @@ ghost use Prim.Native.Nat.{_≤_};
 ghost use lib.ListN.{length};
 use cutting::CutAnswer;
 use cutting::cut;
+use layout::number_of;
 use libc::STDIN_FILENO;
 use libc::STDOUT_FILENO;
 use lines::first_length;
-use numbers::put_decimal;
 use numbers::u16_at;
-use records::number_of;
-use records::place_of;
-use records::wide;
-use records::wide16;
+use numbers::wide;
+use numbers::wide16;
 
-// Prints a number behind a text.
+// Prints a line: a text, a space and a number.
 fn say(text: &[u8], n: usize) {
-    let mut digits = [0u8; 24];
-    let length = put_decimal(n as u64, &mut digits);
     io::write_all(STDOUT_FILENO, text);
     io::write_all(STDOUT_FILENO, b" ");
-    if length <= 24 {
-        io::write_all(STDOUT_FILENO, &digits[0..length]);
-    }
+    io::print_decimal(STDOUT_FILENO, n as u64);
     io::write_all(STDOUT_FILENO, b"\n");
 }
 
@@ -34,8 +28,9 @@ fn say_cut(text: &[u8], network: &[u8], sheet: &[u8], k: u8, out: &mut [u8]) {
     match cut(network, sheet, k, out) {
         CutAnswer::Done(length) => say(b" bytes", length),
         CutAnswer::Refused(refusal) => {
-            say(b" refused", wide(number_of(refusal)));
-            say(b"  place", place_of(refusal));
+            let class = refusal.class;
+            say(b" refused", wide(number_of(class)));
+            say(b"  place", refusal.place);
         }
     }
 }

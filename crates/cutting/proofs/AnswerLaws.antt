@@ -8,34 +8,45 @@ use mathlib.Core.List.{List}
 use mathlib.Core.Option.{none, some}
 use mathlib.Core.Path.{_≡_, refl, sym, ap, _∙_}
 use lib.Dec.{eqb, ltb}
-use lib.ListN.{length}
+use lib.ListN.{length, replicate}
+use Rattle.lists.specs.Gather.{tableAfter}
+use Rattle.records.specs.Entered.{entered, withEntry, EntryRows}
+use Rattle.layout.specs.Form.{sheetLead, nodeWidth}
+use Rattle.layout.specs.Layout.{Room, nodeCount, nodePart, nodeOffset}
+use Rattle.records.proofs.EnteredLaws.{entry-rows}
+use Rattle.marking.specs.Tables.{withFragment, boxIn, ownMeets, unclashed, Numbered, RowTables, outside}
 use borrow.Author.Tests.{eq-eqb, ne-eqb, lt-ltb, le-ltb, le-leb, lt-leb}
 use Rattle.lists.specs.All.{any}
-use Rattle.lists.specs.Filter.{holds, any-filterMap}
-use Rattle.lists.specs.First.{firstBad, every, every-ext, first-le}
+use Rattle.lists.specs.Filter.{holds}
+use Rattle.lists.proofs.Filter.{any-filterMap}
+use Rattle.lists.specs.First.{firstBad, every}
+use Rattle.lists.proofs.First.{every-ext}
 use Rattle.lists.specs.Laid.{placed}
 use Rattle.lists.specs.Stride.{at}
-use Rattle.lists.specs.Table.{any-rows}
+use Rattle.lists.proofs.Table.{any-rows}
 use Rattle.routes.specs.declared.Demand.{Demand}
 use Rattle.routes.specs.declared.Route.{Route}
-use Rattle.networks.specs.Answer.{Answer, given, refused, isSome, lowest, unentered}
+use Rattle.lists.specs.Answer.{Answer, given, refused, isSome}
+use Rattle.networks.specs.Lowest.{lowest, unentered}
 use Rattle.networks.specs.Cut.{numbered, clashes, cut}
-use Rattle.networks.specs.House.{house}
+use Rattle.reading.specs.House.{house}
 use Rattle.networks.specs.Network.{Own, Box, own, input, asOwn, ownBoxes}
 use Rattle.networks.specs.Sheets.{note}
-use Rattle.records.specs.Form.{nodeWidth}
-use Rattle.records.specs.Layout.{nodeCount, nodePart, nodeOffset}
-use Rattle.records.specs.Node.{nodeId}
-use Rattle.records.specs.declared.Form.{Form}
+use Rattle.nodes.specs.Node.{nodeId}
+use Rattle.layout.specs.Refusals.{refusing}
+use Rattle.layout.specs.declared.Class.the-variants.{NoEntry, NoteDiffers}
+use Rattle.layout.specs.declared.Form.{Form}
+use Rattle.layout.specs.declared.Refusal.{Refusal}
 use Rattle.reading.specs.Parts.{boxAt}
 use Rattle.reading.specs.Whole.{HouseNetwork, HouseSheet, readNetwork, readSheet, writeNetwork}
 use Rattle.reading.proofs.Lowest.{passed, lowest-rows}
 use Rattle.reading.proofs.Said.{box-id-at}
 use Rattle.cutting.specs.Cutting.{cutSaid, roomFor, recordAnswer, laidAnswer}
 use Rattle.laying.specs.Pieces.{fragmentIn}
-use Rattle.cutting.specs.Stages.{Entered, Asked}
-use Rattle.marking.specs.Tables.{boxIn, ownMeets, entered, otherNumber, unclashed, Noted, Numbered, CheckedNetwork, CheckedSheet, RowTables}
-use Rattle.marking.proofs.TableLaws.{other-is}
+use Rattle.cutting.specs.Stages.{AllEntered, Asked}
+use Rattle.records.specs.Checked.{CheckedNetwork, CheckedEntries}
+use Rattle.routes.specs.Carry.{highest}
+use Rattle.marking.proofs.FragmentLaws.{outside-is, entered-is, fragments-numbered}
 
 -- the length of a record against the room for it
 module _ (room size : ℕ) (w : List ℕ) (s : size ≡ length w) where
@@ -81,31 +92,27 @@ module _ (f : Form) (network sheet : List ℕ) (k : ℕ) where
 
   -- 17, 18 and 19 by the rows that they name
   unentered-is : unentered N (note S)
-      ≡ cond (ltb (firstBad (entered f network sheet) (nodeCount network)) (nodeCount network)) (some (nodeId f network (firstBad (entered f network sheet) (nodeCount network)))) none
-  unfolding entered
-  unentered-is = lowest-own f network (λ (b : Own Route Demand). not (isSome (note S (b .id)))) (entered f network sheet) (λ i l. refl)
+      ≡ cond (ltb (firstBad (entered f sheetLead network sheet) (nodeCount network)) (nodeCount network)) (some (nodeId f network (firstBad (entered f sheetLead network sheet) (nodeCount network)))) none
+  unentered-is = lowest-own f network (λ (b : Own Route Demand). not (isSome (note S (b .id)))) (entered f sheetLead network sheet) (λ i l. entered-is f network sheet i)
 
-  asked-is : (numbers : List ℕ) → Numbered f network sheet (nodeCount network) numbers
-      → any (numbered N S k) (ownBoxes N) ≡ not (eqb (firstBad (otherNumber f network numbers k) (nodeCount network)) (nodeCount network))
-  asked-is numbers m = any-own f network (numbered N S k) (otherNumber f network numbers k) (λ i l. other-is f network numbers k i sheet m l)
+  asked-is : (fragments : List ℕ) → Numbered f network sheet fragments
+      → any (numbered N S k) (ownBoxes N) ≡ not (eqb (firstBad (outside f network fragments k) (nodeCount network)) (nodeCount network))
+  asked-is fragments m = any-own f network (numbered N S k) (outside f network fragments k) (λ i l. outside-is f network fragments k i sheet m l)
 
-  clash-is : lowest (clashes (house 65535) N S) (ownBoxes N)
+  clash-is : lowest (clashes (house highest) N S) (ownBoxes N)
       ≡ cond (ltb (firstBad (unclashed f network sheet) (nodeCount network)) (nodeCount network)) (some (nodeId f network (firstBad (unclashed f network sheet) (nodeCount network)))) none
   unfolding unclashed
-  clash-is = lowest-own f network (clashes (house 65535) N S) (unclashed f network sheet) (λ i l. refl)
+  clash-is = lowest-own f network (clashes (house highest) N S) (unclashed f network sheet) (λ i l. refl)
 
   module _ (n : ℕ) (e : n ≡ nodeCount network) where
     -- a row without an entry
-    module _ (missing : ℕ) (m : missing ≡ firstBad (entered f network sheet) n) where
-      at-missing : missing ≡ firstBad (entered f network sheet) (nodeCount network)
-      at-missing = rw (← e) m
-
-      module _ (l : missing < n) (id : ℕ) (d : id ≡ nodeId f network missing) where
-        said-17 : cutSaid f network sheet k ≡ refused 17 id
+    module _ (missing : ℕ) (m : missing ≡ firstBad (entered f sheetLead network sheet) (nodeCount network)) where
+      module _ (l : missing < n) (r : Refusal) (d : r ≡ record { class = NoEntry; place = nodeId f network missing }) where
+        said-17 : cutSaid f network sheet k ≡ refusing r
         unfolding cutSaid cut
-        said-17 = rw (unentered-is, ← at-missing, lt-ltb missing (nodeCount network) (omega arith), d)
+        said-17 = rw (unentered-is, ← m, lt-ltb missing (nodeCount network) (omega arith), d)
 
-        pub answer-17 : (room : ℕ) → refused 17 id ≡ recordAnswer f room (cutSaid f network sheet k)
+        pub answer-17 : (room : ℕ) → refusing r ≡ recordAnswer f room (cutSaid f network sheet k)
         answer-17 room = rw said-17
 
         pub buffer-17 : (out : List ℕ) → out ≡ laidAnswer f (cutSaid f network sheet k) out
@@ -116,50 +123,52 @@ module _ (f : Form) (network sheet : List ℕ) (k : ℕ) where
 
       module _ (l : n ≤ missing) where
         none-missing : unentered N (note S) ≡ none
-        none-missing = unentered-is ∙ rw (← at-missing, le-ltb missing (nodeCount network) (omega arith))
+        none-missing = unentered-is ∙ rw (← m, le-ltb missing (nodeCount network) (omega arith))
 
-        done : missing ≡ n
-        done = let z = first-le (entered f network sheet) n in omega arith
+        pub all-found : (found : List ℕ) → Room f network → found ≡ tableAfter (withEntry f sheetLead network sheet) missing (replicate 1024 0)
+            → EntryRows f sheetLead network sheet found
+        all-found found r d = entry-rows f sheetLead network sheet missing found r m (omega arith) d
 
-        pub all-rows : (entries numbers : List ℕ) → CheckedNetwork f network → CheckedSheet f sheet → (missing ≡ n → Noted f network sheet n entries)
-            → (missing ≡ n → Numbered f network sheet n numbers) → RowTables f network sheet entries numbers
-        all-rows entries numbers c d h g = record { checked = c; formed = d; noted = rw (← e) (h done); numbered = rw (← e) (g done) }
-
-        pub all-entered : Entered f network sheet
-        unfolding Entered
+        pub all-entered : AllEntered f network sheet
+        unfolding AllEntered
         all-entered = none-missing
 
+    -- all rows have their fragment numbers
+    pub all-rows : (found fragments : List ℕ) → CheckedNetwork f network → CheckedEntries f sheetLead sheet → EntryRows f sheetLead network sheet found
+        → fragments ≡ tableAfter (withFragment f network sheet) n (replicate 1024 0) → RowTables f network sheet found fragments
+    all-rows found fragments c d h g = record { checked = c; formed = d; noted = h; numbered = fragments-numbered f network sheet n fragments c e g }
+
     -- no own node with the number asked, or one
-    module _ (h : Entered f network sheet) (numbers : List ℕ) (m : Numbered f network sheet (nodeCount network) numbers) (asked : ℕ) (q : asked ≡ firstBad (otherNumber f network numbers k) n) where
-      at-asked : asked ≡ firstBad (otherNumber f network numbers k) (nodeCount network)
+    module _ (h : AllEntered f network sheet) (fragments : List ℕ) (m : Numbered f network sheet fragments) (asked : ℕ) (q : asked ≡ firstBad (outside f network fragments k) n) where
+      at-asked : asked ≡ firstBad (outside f network fragments k) (nodeCount network)
       at-asked = rw (← e) q
 
       module _ (z : asked ≡ n) where
         said-18 : cutSaid f network sheet k ≡ refused 18 k
-        unfolding cutSaid cut Entered
-        said-18 = rw (h, asked-is numbers m, ← at-asked, eq-eqb asked (nodeCount network) (z ∙ e))
+        unfolding cutSaid cut AllEntered
+        said-18 = rw (h, asked-is fragments m, ← at-asked, eq-eqb asked (nodeCount network) (z ∙ e))
 
-        pub answer-18 : (room : ℕ) → refused 18 k ≡ recordAnswer f room (cutSaid f network sheet k)
-        answer-18 room = rw said-18
+        pub answer-18 : (room place : ℕ) → place ≡ k → refused 18 place ≡ recordAnswer f room (cutSaid f network sheet k)
+        answer-18 room place p = rw (said-18, p)
 
         pub buffer-18 : (out : List ℕ) → out ≡ laidAnswer f (cutSaid f network sheet k) out
         buffer-18 out = rw said-18
 
       pub one-asked : (asked ≡ n → ⊥) → Asked f network sheet k
       unfolding Asked
-      one-asked z = asked-is numbers m ∙ rw (← at-asked, ne-eqb asked (nodeCount network) (λ y. z (y ∙ sym e)))
+      one-asked z = asked-is fragments m ∙ rw (← at-asked, ne-eqb asked (nodeCount network) (λ y. z (y ∙ sym e)))
 
     -- a row whose promise is not its note, or none
-    module _ (h : Entered f network sheet) (a : Asked f network sheet k) (clash : ℕ) (q : clash ≡ firstBad (unclashed f network sheet) n) where
+    module _ (h : AllEntered f network sheet) (a : Asked f network sheet k) (clash : ℕ) (q : clash ≡ firstBad (unclashed f network sheet) n) where
       at-clash : clash ≡ firstBad (unclashed f network sheet) (nodeCount network)
       at-clash = rw (← e) q
 
-      module _ (l : clash < n) (id : ℕ) (d : id ≡ nodeId f network clash) where
-        said-19 : cutSaid f network sheet k ≡ refused 19 id
-        unfolding cutSaid cut Entered Asked
+      module _ (l : clash < n) (r : Refusal) (d : r ≡ record { class = NoteDiffers; place = nodeId f network clash }) where
+        said-19 : cutSaid f network sheet k ≡ refusing r
+        unfolding cutSaid cut AllEntered Asked
         said-19 = rw (h, a, clash-is, ← at-clash, lt-ltb clash (nodeCount network) (omega arith), d)
 
-        pub answer-19 : (room : ℕ) → refused 19 id ≡ recordAnswer f room (cutSaid f network sheet k)
+        pub answer-19 : (room : ℕ) → refusing r ≡ recordAnswer f room (cutSaid f network sheet k)
         answer-19 room = rw said-19
 
         pub buffer-19 : (out : List ℕ) → out ≡ laidAnswer f (cutSaid f network sheet k) out
@@ -170,7 +179,7 @@ module _ (f : Form) (network sheet : List ℕ) (k : ℕ) where
 
       module _ (l : n ≤ clash) where
         said-cut : cutSaid f network sheet k ≡ given (fragmentIn f network sheet k)
-        unfolding cutSaid cut fragmentIn Entered Asked
+        unfolding cutSaid cut fragmentIn AllEntered Asked
         said-cut = rw (h, a, clash-is, ← at-clash, le-ltb clash (nodeCount network) (omega arith))
 
         pub answer-cut : (room : ℕ) (r : Answer ℕ) → r ≡ roomFor room (writeNetwork f (fragmentIn f network sheet k)) → r ≡ recordAnswer f room (cutSaid f network sheet k)
@@ -179,7 +188,7 @@ module _ (f : Form) (network sheet : List ℕ) (k : ℕ) where
         pub buffer-cut : (out out′ : List ℕ) → out′ ≡ placed (writeNetwork f (fragmentIn f network sheet k)) out → out′ ≡ laidAnswer f (cutSaid f network sheet k) out
         buffer-cut out out′ p = rw said-cut p
 
-pub ruleset cutting-17 = (answer-17, buffer-17, missing-row, all-rows, all-entered)
+pub ruleset cutting-17 = (answer-17, buffer-17, missing-row, all-found, all-entered)
 
 pub ruleset cutting-18 = (answer-18, buffer-18, one-asked)
 

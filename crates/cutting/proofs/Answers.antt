@@ -1,8 +1,8 @@
 -- The cutter's answer is known by its numbers: any two with the same answer are the same.
 use mathlib.Core.Path.{_≡_, refl, sym, ap, _∙_}
 use Prim.Native.Nat.{ℕ}
-use Rattle.networks.specs.Answer.{Answer, given, refused}
-use Rattle.records.specs.Cases.{caseOf, numbers-case}
+use Rattle.lists.specs.Answer.{Answer, given, refused}
+use Rattle.layout.proofs.Cases.{refusalOf, numbers-refusal}
 use Rattle.cutting.specs.Answers.{answerOf}
 use Rattle.cutting.specs.declared.CutAnswer.{CutAnswer}
 use Rattle.cutting.specs.declared.CutAnswer.the-variants.{Done, Refused}
@@ -10,12 +10,12 @@ use Rattle.cutting.specs.declared.CutAnswer.the-variants.{Done, Refused}
 -- the case with an answer
 unfoldable pub cutOf : Answer ℕ → CutAnswer
 cutOf (given length) = Done length
-cutOf (refused number place) = Refused (caseOf (record { number = number; place = place }))
+cutOf (refused number place) = Refused (refusalOf number place)
 
 pub answer-cut : (c : CutAnswer) → cutOf (answerOf c) ≡ c
 unfolding cutOf
 answer-cut (Done length) = refl
-answer-cut (Refused r) = ap Refused (numbers-case r)
+answer-cut (Refused r) = ap Refused (numbers-refusal r)
 
 -- the cutter's contract allows one answer
 pub one-cut : (a : Answer ℕ) (c d : CutAnswer) → answerOf c ≡ a → answerOf d ≡ a → c ≡ d

@@ -3,29 +3,38 @@ ghost use mathlib.Core.Path.{_≡_};
 ghost use lib.ListN.{length};
 ghost use Rattle.lists.specs.Gather.{count};
 ghost use Rattle.lists.specs.Laid.{placed};
-ghost use Rattle.records.specs.Layout.{edgeCount};
+ghost use Rattle.layout.specs.Layout.{edgeCount};
 ghost use Rattle.records.specs.Rows.{Filled};
 ghost use Rattle.reading.specs.Whole.{writeNetwork};
 ghost use Rattle.cutting.specs.Answers.{answerOf};
 ghost use Rattle.cutting.specs.Cutting.{cutSaid, roomFor, recordAnswer, laidAnswer, cutRecords, cutBuffer};
-ghost use Rattle.cutting.specs.Stages.{Entered, Asked};
+ghost use Rattle.cutting.specs.Stages.{AllEntered, Asked};
 ghost use Rattle.laying.specs.Pieces.{fragmentIn};
 ghost use Rattle.marking.specs.Marks.{reaches, Leaving, Feeding};
-ghost use Rattle.marking.specs.Tables.{CheckedNetwork, CheckedSheet, RowTables};
+ghost use Rattle.records.specs.Checked.{CheckedRows, CheckedEntries};
+ghost use Rattle.layout.specs.Form.{sheetLead};
+ghost use Rattle.marking.specs.Tables.{RowTables};
 use crate::CutAnswer;
+use entries::check_sheet;
 use laying::lay;
-use marking::enter;
+use layout::Check;
+use layout::Class;
+use layout::EDGES_FIELD;
+use layout::Form;
+use layout::NODES_FIELD;
+use layout::ROWS;
+use layout::Refusal;
+use layout::SHEET_LEAD;
+use marking::classify_rows;
 use marking::first_clash;
-use marking::first_of;
+use marking::first_inside;
 use marking::mark_wires;
-use marking::sort_rows;
+use marking::number_rows;
+use nodes::refused_at;
 use numbers::u16_at;
-use records::Check;
-use records::Form;
-use records::Refusal;
+use numbers::wide;
 use records::check_network_rows;
-use records::check_sheet;
-use records::node_id;
+use records::place_entries;
 
 // What is kept of each row, and then the record, or 20 where there is no room for it.
 fn cut_agreed(
@@ -33,33 +42,33 @@ fn cut_agreed(
     network: &[u8],
     sheet: &[u8],
     rows: &[u16; 65536],
-    entries: &[u16; 1024],
-    numbers: &[u8; 1024],
-    leaves: &[u8; 1024],
-    feeds: &[u8; 1024],
+    found: &[u16; ROWS],
+    fragments: &[u8; ROWS],
+    leaves: &[u8; ROWS],
+    feeds: &[u8; ROWS],
     k: u8,
     edges: usize,
     out: &mut [u8],
 ) -> CutAnswer
-    requires { ⌜ RowTables form (now network) (now sheet) (now entries) (now numbers) × Filled form (now network) (now rows) ⌝ }
-    requires { ⌜ edges ≡ count (reaches form (now network) (now numbers) k) (edgeCount (now network)) ⌝ }
+    requires { ⌜ RowTables form (now network) (now sheet) (now found) (now fragments) × Filled form (now network) (now rows) ⌝ }
+    requires { ⌜ edges ≡ count (reaches form (now network) (now fragments) k) (edgeCount (now network)) ⌝ }
     requires { ⌜ Leaving form (now network) (now sheet) (now leaves) × Feeding form (now network) (now sheet) k (now feeds) ⌝ }
     ensures answer { λ r. ⌜ answerOf r ≡ roomFor (length (now (out .entry))) (writeNetwork form (fragmentIn form (now (network .entry)) (now (sheet .entry)) k)) ⌝ }
     ensures buffer { λ _. ⌜ now (out .exit) ≡ placed (writeNetwork form (fragmentIn form (now (network .entry)) (now (sheet .entry)) k)) (now (out .entry)) ⌝ }
 {
-    let n = u16_at(network, 5) as usize;
-    let mut parts = [0u8; 1024];
-    let nodes = sort_rows(
+    let n = u16_at(network, NODES_FIELD) as usize;
+    let mut pieces = [0u8; ROWS];
+    let nodes = classify_rows(
         form,
         network,
         sheet,
-        entries,
-        numbers,
+        found,
+        fragments,
         leaves,
         feeds,
         k,
         n,
-        &mut parts,
+        &mut pieces,
     );
     let room = out.len();
     let size = lay(
@@ -67,16 +76,19 @@ fn cut_agreed(
         network,
         sheet,
         rows,
-        entries,
-        numbers,
-        &parts,
+        found,
+        fragments,
+        &pieces,
         k,
         nodes,
         edges,
         out,
     );
     if room < size {
-        return CutAnswer::Refused(Refusal::NoRoom(size));
+        return CutAnswer::Refused(Refusal {
+            class: Class::NoRoom,
+            place: size,
+        });
     }
     CutAnswer::Done(size)
 }
@@ -87,31 +99,40 @@ fn cut_asked(
     network: &[u8],
     sheet: &[u8],
     rows: &[u16; 65536],
-    entries: &[u16; 1024],
-    numbers: &[u8; 1024],
+    found: &[u16; ROWS],
+    fragments: &[u8; ROWS],
     k: u8,
     out: &mut [u8],
 ) -> CutAnswer
-    requires { ⌜ RowTables form (now network) (now sheet) (now entries) (now numbers) × Filled form (now network) (now rows) × Entered form (now network) (now sheet) × Asked form (now network) (now sheet) k ⌝ }
+    requires { ⌜ RowTables form (now network) (now sheet) (now found) (now fragments) × Filled form (now network) (now rows) × AllEntered form (now network) (now sheet) × Asked form (now network) (now sheet) k ⌝ }
     ensures answer { λ r. ⌜ answerOf r ≡ recordAnswer form (length (now (out .entry))) (cutSaid form (now (network .entry)) (now (sheet .entry)) k) ⌝ }
     ensures buffer { λ _. ⌜ now (out .exit) ≡ laidAnswer form (cutSaid form (now (network .entry)) (now (sheet .entry)) k) (now (out .entry)) ⌝ }
 {
-    let n = u16_at(network, 5) as usize;
-    let m = u16_at(network, 7) as usize;
-    let mut leaves = [0u8; 1024];
-    let mut feeds = [0u8; 1024];
-    let edges = mark_wires(form, network, rows, numbers, k, m, &mut leaves, &mut feeds);
-    let clash = first_clash(form, network, sheet, entries, &leaves, n);
+    let n = u16_at(network, NODES_FIELD) as usize;
+    let m = u16_at(network, EDGES_FIELD) as usize;
+    let mut leaves = [0u8; ROWS];
+    let mut feeds = [0u8; ROWS];
+    let edges = mark_wires(
+        form,
+        network,
+        rows,
+        fragments,
+        k,
+        m,
+        &mut leaves,
+        &mut feeds,
+    );
+    let clash = first_clash(form, network, sheet, found, &leaves, n);
     if clash < n {
-        return CutAnswer::Refused(Refusal::NoteDiffers(node_id(form, network, clash)));
+        return CutAnswer::Refused(refused_at(Class::NoteDiffers, form, network, clash));
     }
     cut_agreed(
         form,
         network,
         sheet,
         rows,
-        entries,
-        numbers,
+        found,
+        fragments,
         &leaves,
         &feeds,
         k,
@@ -126,20 +147,23 @@ fn cut_entered(
     network: &[u8],
     sheet: &[u8],
     rows: &[u16; 65536],
-    entries: &[u16; 1024],
-    numbers: &[u8; 1024],
+    found: &[u16; ROWS],
+    fragments: &[u8; ROWS],
     k: u8,
     out: &mut [u8],
 ) -> CutAnswer
-    requires { ⌜ RowTables form (now network) (now sheet) (now entries) (now numbers) × Filled form (now network) (now rows) × Entered form (now network) (now sheet) ⌝ }
+    requires { ⌜ RowTables form (now network) (now sheet) (now found) (now fragments) × Filled form (now network) (now rows) × AllEntered form (now network) (now sheet) ⌝ }
     ensures answer { λ r. ⌜ answerOf r ≡ recordAnswer form (length (now (out .entry))) (cutSaid form (now (network .entry)) (now (sheet .entry)) k) ⌝ }
     ensures buffer { λ _. ⌜ now (out .exit) ≡ laidAnswer form (cutSaid form (now (network .entry)) (now (sheet .entry)) k) (now (out .entry)) ⌝ }
 {
-    let n = u16_at(network, 5) as usize;
-    if first_of(form, network, numbers, k, n) == n {
-        return CutAnswer::Refused(Refusal::NoFragment(k));
+    let n = u16_at(network, NODES_FIELD) as usize;
+    if first_inside(form, network, fragments, k, n) == n {
+        return CutAnswer::Refused(Refusal {
+            class: Class::NoFragment,
+            place: wide(k),
+        });
     }
-    cut_asked(form, network, sheet, rows, entries, numbers, k, out)
+    cut_asked(form, network, sheet, rows, found, fragments, k, out)
 }
 
 // Numbers 17 to 20, or the record.
@@ -151,18 +175,19 @@ fn cut_checked(
     k: u8,
     out: &mut [u8],
 ) -> CutAnswer
-    requires { ⌜ CheckedNetwork form (now network) × CheckedSheet form (now sheet) × Filled form (now network) (now rows) ⌝ }
+    requires { ⌜ CheckedRows form (now network) (now rows) × CheckedEntries form sheetLead (now sheet) ⌝ }
     ensures answer { λ r. ⌜ answerOf r ≡ recordAnswer form (length (now (out .entry))) (cutSaid form (now (network .entry)) (now (sheet .entry)) k) ⌝ }
     ensures buffer { λ _. ⌜ now (out .exit) ≡ laidAnswer form (cutSaid form (now (network .entry)) (now (sheet .entry)) k) (now (out .entry)) ⌝ }
 {
-    let n = u16_at(network, 5) as usize;
-    let mut entries = [0u16; 1024];
-    let mut numbers = [64u8; 1024];
-    let missing = enter(form, network, sheet, &mut entries, &mut numbers, n);
+    let n = u16_at(network, NODES_FIELD) as usize;
+    let mut found = [0u16; ROWS];
+    let missing = place_entries(form, SHEET_LEAD, network, sheet, &mut found);
     if missing < n {
-        return CutAnswer::Refused(Refusal::NoEntry(node_id(form, network, missing)));
+        return CutAnswer::Refused(refused_at(Class::NoEntry, form, network, missing));
     }
-    cut_entered(form, network, sheet, rows, &entries, &numbers, k, out)
+    let mut fragments = [0u8; ROWS];
+    number_rows(form, network, sheet, &found, n, &mut fragments);
+    cut_entered(form, network, sheet, rows, &found, &fragments, k, out)
 }
 
 // Cuts fragment k out of a network by a sheet: the record is laid over the start of the buffer and its length is the answer;
@@ -173,21 +198,10 @@ pub fn cut(network: &[u8], sheet: &[u8], k: u8, out: &mut [u8]) -> CutAnswer
 {
     let mut rows = [0u16; 65536];
     match check_network_rows(network, &mut rows) {
-        Check::Refused(r) => return CutAnswer::Refused(r),
-        Check::Fine => {}
-    }
-    match check_sheet(sheet) {
         Check::Refused(r) => CutAnswer::Refused(r),
-        Check::Fine => cut_checked(
-            Form {
-                route: 9,
-                most: 512,
-            },
-            network,
-            sheet,
-            &rows,
-            k,
-            out,
-        ),
+        Check::Fine(form) => match check_sheet(sheet) {
+            Check::Refused(r) => CutAnswer::Refused(r),
+            Check::Fine(_) => cut_checked(form, network, sheet, &rows, k, out),
+        },
     }
 }

@@ -2,34 +2,55 @@
 ghost use mathlib.Core.Path.{_≡_};
 ghost use lib.ListN.{length};
 ghost use Rattle.lists.specs.Laid.{placed};
+ghost use Rattle.layout.specs.Form.{widest, formOf};
+ghost use Rattle.reading.specs.Largest.{largestNetwork};
 ghost use Rattle.cutting.specs.Cutting.{cutNetwork};
-ghost use Rattle.cutting.specs.Text.{cutOutput, cutText};
+ghost use Rattle.cutting.specs.Text.{cutOutput, cutBound, cutText};
 use crate::CutAnswer;
 use crate::entry::cut;
+use layout::LARGEST_NETWORK;
+use layout::LARGEST_SHEET;
+use layout::number_of;
+use lines::Line;
 use lines::first_length;
-use lines::put_refused;
-use records::number_of;
-use records::place_of;
-use records::wide;
+use lines::place_line;
+use numbers::wide;
 
-// The largest network: no fragment is longer.
-pub const LARGEST: usize = 35146;
+// No output is longer than the largest network.
+pub const LARGEST: usize = LARGEST_NETWORK;
 
-// The longest input: the largest network, the byte for the fragment, and the largest sheet, 6,151 bytes.
-pub const LONGEST: usize = 41298;
+// The longest input: the largest network, the byte for the fragment, and the largest sheet.
+pub const LONGEST: usize = LARGEST_NETWORK + 1 + LARGEST_SHEET;
+
+// The same two, held to their definitions.
+pub fn largest_output() -> usize
+    ensures { λ r. ⌜ r ≡ largestNetwork widest ⌝ }
+{
+    LARGEST
+}
+
+pub fn longest_input() -> usize
+    ensures { λ r. ⌜ r ≡ cutBound ⌝ }
+{
+    LONGEST
+}
 
 // Places fragment k, or the line of a refusal, at the start of out where it fits, and answers its length. Number 20 says that
 // the fragment does not fit, and its place is the fragment's length.
 fn put_fragment(network: &[u8], sheet: &[u8], k: u8, out: &mut [u8]) -> usize
-    ensures count { λ r. ⌜ r ≡ length (cutOutput (cutNetwork (now (network .entry)) (now (sheet .entry)) k)) ⌝ }
-    ensures text { λ _. ⌜ now (out .exit) ≡ placed (cutOutput (cutNetwork (now (network .entry)) (now (sheet .entry)) k)) (now (out .entry)) ⌝ }
+    ensures count { λ r. ⌜ r ≡ length (cutOutput (formOf (now (network .entry))) (cutNetwork (now (network .entry)) (now (sheet .entry)) k)) ⌝ }
+    ensures text { λ _. ⌜ now (out .exit) ≡ placed (cutOutput (formOf (now (network .entry))) (cutNetwork (now (network .entry)) (now (sheet .entry)) k)) (now (out .entry)) ⌝ }
 {
     match cut(network, sheet, k, out) {
         CutAnswer::Done(length) => length,
-        CutAnswer::Refused(refusal) => match number_of(refusal) {
-            20 => place_of(refusal),
-            number => put_refused(wide(number), place_of(refusal), out),
-        },
+        CutAnswer::Refused(refusal) => {
+            let class = refusal.class;
+            let place = refusal.place;
+            match number_of(class) {
+                20 => place,
+                number => place_line(Line::Refused(wide(number), place), out),
+            }
+        }
     }
 }
 
@@ -39,8 +60,9 @@ pub fn cut_bytes(input: &[u8], out: &mut [u8]) -> usize
     ensures count { λ r. ⌜ r ≡ length (cutText (now (input .entry))) ⌝ }
     ensures text { λ _. ⌜ now (out .exit) ≡ placed (cutText (now (input .entry))) (now (out .entry)) ⌝ }
 {
-    if LONGEST < input.len() {
-        return put_refused(5, LONGEST, out);
+    let longest = longest_input();
+    if longest < input.len() {
+        return place_line(Line::Refused(5, longest), out);
     }
     let first = first_length(input);
     if first == input.len() {

@@ -5,6 +5,7 @@ use judging::LONGEST;
 use judging::judge_bytes;
 use libc::STDIN_FILENO;
 use libc::STDOUT_FILENO;
+use lines::LONGEST_LINE;
 
 // Writes the answer to an input. No contract can say what a call of C's writes, so what is written is said where it is asked.
 fn write_answer(input: &[u8], text: &[u8])
@@ -13,9 +14,9 @@ fn write_answer(input: &[u8], text: &[u8])
     io::write_all(STDOUT_FILENO, text);
 }
 
-// Judges an input. The longest line has 153 bytes.
+// Judges an input, with room for the longest line.
 fn answer(input: &[u8]) {
-    let mut line = [0u8; 153];
+    let mut line = [0u8; LONGEST_LINE];
     let length = judge_bytes(input, &mut line);
     write_answer(input, &line[0..length]);
 }

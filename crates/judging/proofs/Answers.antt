@@ -3,9 +3,9 @@ use mathlib.Core.Path.{_≡_, refl, sym, ap, _∙_}
 use mathlib.Core.Bool.{cond}
 use lib.Dec.{eqb}
 use Rattle.routes.specs.declared.Route.{Route}
-use Rattle.networks.specs.Answer.{Answer, given, refused}
+use Rattle.lists.specs.Answer.{Answer, given, refused}
 use Rattle.networks.specs.Judge.{Verdict as Judged, pass, found}
-use Rattle.records.specs.Cases.{caseOf, numbers-case}
+use Rattle.layout.proofs.Cases.{refusalOf, numbers-refusal}
 use Rattle.judging.specs.Answers.{answerOf}
 use Rattle.judging.specs.declared.Verdict.{Verdict}
 use Rattle.judging.specs.declared.Verdict.the-variants.{Pass, NotDue, PromiseBroken, DemandUnmet, Refused}
@@ -17,7 +17,7 @@ verdictOf (given (found number node route count)) =
     cond (eqb number 31) (NotDue (record { node = node; count = count; route = route }))
     (cond (eqb number 32) (PromiseBroken (record { node = node; count = count; route = route }))
     (DemandUnmet (record { node = node; count = count; route = route })))
-verdictOf (refused number place) = Refused (caseOf (record { number = number; place = place }))
+verdictOf (refused number place) = Refused (refusalOf number place)
 
 pub answer-verdict : (v : Verdict) → verdictOf (answerOf v) ≡ v
 unfolding verdictOf
@@ -25,7 +25,7 @@ answer-verdict (Pass count) = refl
 answer-verdict (NotDue f) = refl
 answer-verdict (PromiseBroken f) = refl
 answer-verdict (DemandUnmet f) = refl
-answer-verdict (Refused r) = ap Refused (numbers-case r)
+answer-verdict (Refused r) = ap Refused (numbers-refusal r)
 
 -- the judge's contract allows one verdict
 pub one-verdict : (a : Answer (Judged Route)) (v w : Verdict) → answerOf v ≡ a → answerOf w ≡ a → v ≡ w

@@ -1,5 +1,5 @@
--- The first fault of one box, one law for each way through the tests.
-use mathlib.Core.Path.{_≡_, sym, ap, _∙_}
+-- An own box, and its first fault, one law for each way through the tests.
+use mathlib.Core.Path.{_≡_, sym, ap, ap₂, _∙_}
 use mathlib.Core.Bool.{Bool, true, false, not}
 use mathlib.Core.List.{List}
 use mathlib.Core.Option.{Option, none, some}
@@ -10,19 +10,28 @@ use lib.ListN.{length, getD}
 use mir.Syntax.{w64}
 use mir.Val.{Fits}
 use borrow.Author.Tests.{not-true, not-false}
+use Rattle.numbers.specs.BigEndian.{u16At}
 use Rattle.routes.specs.Demand.{meets}
 use Rattle.routes.specs.Form.{routeAt}
 use Rattle.routes.specs.Order.{same}
 use Rattle.routes.specs.declared.Demand.{Demand}
 use Rattle.routes.specs.declared.Route.{Route}
-use Rattle.networks.specs.Judge.{Finding}
-use Rattle.records.specs.Layout.{Room, nodeCount, nodeOffset}
-use Rattle.records.specs.Node.{promising, demandOf}
-use Rattle.records.specs.Offsets.{node-fields-room}
-use Rattle.records.specs.declared.Form.{Form}
+use Rattle.reading.specs.House.{house}
+use Rattle.networks.specs.Judge.{Finding, held}
+use Rattle.layout.specs.Layout.{Room, nodeCount, nodeOffset}
+use Rattle.nodes.specs.Node.{nodeId, isOwn, promising, demandOf}
+use Rattle.layout.proofs.Places.{node-fields-room}
+use Rattle.layout.specs.declared.Form.{Form}
 use Rattle.reading.specs.Parts.{promiseAt, demandAt}
+use Rattle.reading.specs.Whole.{readList}
 use Rattle.judging.specs.Answers.{unmetOf}
-use Rattle.judging.specs.Offer.{faultOf}
+use Rattle.judging.specs.OwnBox.{ownBoxAt, faultOf}
+use Rattle.routes.specs.Carry.{highest}
+use Rattle.judging.specs.Neighbour.{rowPart}
+use Rattle.judging.specs.Prepared.{Listed, Standing}
+use Rattle.judging.proofs.PartLaws.{row-long, row-route}
+use Rattle.judging.proofs.PreparedLaws.{standing-listed, standing-room}
+use Rattle.judging.proofs.Said.{mapping-own}
 
 -- the demand of a box by its own offset
 demand-same : (w : ℕ) (b : List ℕ) (o : ℕ) → demandOf w b o ≡ demandAt b (o + 4 + w + w)
@@ -94,3 +103,44 @@ module _ (f : Form) (b : List ℕ) (row : ℕ) (held due : Route) where
         fault-kept x v g = rw (← at, ← e, not-false t y, a-promise z, promise-offset, ← k, ← m, not-false u v) g
 
 pub ruleset faults = (fault-due, box-room, promise-wide, promise-room, promise-fits, promise-base-fits, fault-free, fault-promise, fault-kept)
+
+-- the own box in a row
+module _ (f : Form) (b : List ℕ) (row o : ℕ) (e : o ≡ nodeOffset f b row) where
+  module _ (r : Room f b) (l : row < nodeCount b) where
+    pub own-id-room : o + 2 ≤ length b
+    own-id-room = omega (arith, node-fields-room f b r row l)
+
+    pub own-wide : 9 ≤ f .route
+    own-wide = r .usable .wide
+
+    pub own-route-room : o + 3 + f .route ≤ length b
+    own-route-room = omega (arith, node-fields-room f b r row l)
+
+  pub own-is : (n : ℕ) (x : Route) → n ≡ u16At b o → x ≡ routeAt (f .route) b (o + 3) → record { node = n; initial = x } ≡ ownBoxAt f b row
+  unfolding ownBoxAt nodeId
+  own-is n x p q = ap₂ (λ (k : ℕ) (y : Route). record { node = k; initial = y }) (p ∙ ap (u16At b) e) (q ∙ ap (λ (k : ℕ). routeAt (f .route) b (k + 3)) e)
+
+pub ruleset own-boxes = (own-id-room, own-wide, own-route-room, own-is)
+
+-- it holds what the list has for it
+module _ (f : Form) (network list stands : List ℕ) (h : Standing f network list stands) where
+  listed : Listed f network list
+  listed = standing-listed f network list stands h
+
+  pub held-wide : 9 ≤ f .route
+  held-wide = listed .checked .room .usable .wide
+
+  module _ (row : ℕ) (l : row < nodeCount network) (x : List ℕ) (g : x ≡ rowPart f network list row) where
+    pub held-room : 0 + f .route ≤ length x
+    held-room = let e = ap length g ∙ row-long f network list row (listed .checked .room) (listed .entries .formed) l (listed .entered row l) in omega arith
+
+    pub held-fault : (s u : Route) (y : Option (Finding Route)) → isOwn f network row ≡ true → s ≡ routeAt (f .route) x 0 → y ≡ faultOf f network row s u
+        → y ≡ faultOf f network row (held (house highest) (readList f list) (nodeId f network row)) u
+    held-fault s u y own q e =
+        let is : s ≡ held (house highest) (readList f list) (nodeId f network row) =
+        q ∙ ap (λ (b : List ℕ). routeAt (f .route) b 0) g
+        ∙ row-route f network list row (listed .checked .room) (listed .entries .formed) l (listed .entered row l) (listed .checked .rising)
+        ∙ mapping-own f network list (listed .checked .rising) row l own in
+        e ∙ ap (λ (r : Route). faultOf f network row r u) is
+
+pub ruleset held-faults = (standing-room, held-wide, held-room, held-fault)

@@ -2,44 +2,49 @@
 --     wiresFrom, boxesFrom     the wires and boxes that are still to be looked at
 --     Skipped                  for every id from a least one on, only the wires from j on matter
 --     Due                      what the wires from j on make of a route is the due route
+--     stoppedAt                the verdict where a box was judged
 --     Left                     the verdict from here is the verdict from the start
-use mathlib.Core.Path.{_≡_, refl, sym, ap, ap₂, _∙_}
-use mathlib.Core.Bool.{Bool, true, false, _&&_}
+use mathlib.Core.Path.{_≡_, sym, ap, ap₂, _∙_}
+use mathlib.Core.Bool.{true, false}
 use mathlib.Core.List.{List, [], _∷_, map, filterMap}
-use mathlib.Core.Logic.{_⊎_, inl, inr}
 use mathlib.Core.Option.{Option}
 use Prim.Native.Nat.{ℕ, zero, suc, _+_, _-_, _≤_, _<_}
 use native.Mathlib.Nat.{sub-zero}
 use native.Mathlib.Numerals.{add-one}
 use native.Mathlib.Omega.{arith}
-use lib.Dec.{eqb, leb, ltb}
-use borrow.Author.Tests.{eq-eqb, ne-eqb, eqb-true, eqb-false, lt-ltb, leb-false}
-use Rattle.lists.specs.Codec.{Bytes}
+use lib.Dec.{eqb}
+use borrow.Author.Tests.{eq-eqb, ne-eqb}
+use Rattle.lists.specs.Best.{best}
+use Rattle.lists.specs.Bytes.{Bytes}
 use Rattle.lists.specs.Filter.{filter}
-use Rattle.lists.specs.Rising.{least, least-next}
-use Rattle.lists.specs.Rows.{rows, rows-next, rows-end}
-use Rattle.lists.specs.Stride.{at, at-zero}
-use Rattle.lists.specs.Test.{le-or-lt}
+use Rattle.lists.specs.Rising.{least}
+use Rattle.lists.proofs.Rising.{least-next}
+use Rattle.lists.specs.Rows.{rows}
+use Rattle.lists.proofs.Rows.{rows-next, rows-end}
+use Rattle.lists.specs.Stride.{at}
+use Rattle.lists.proofs.Stride.{at-zero}
 use Rattle.numbers.proofs.Codecs.{u16-below}
 use Rattle.numbers.specs.BigEndian.{u16At}
 use Rattle.routes.specs.Form.{routeAt}
+use Rattle.routes.specs.Order.{beats}
 use Rattle.routes.specs.declared.Demand.{Demand}
 use Rattle.routes.specs.declared.Route.{Route}
-use Rattle.networks.specs.Answer.{given}
-use Rattle.networks.specs.House.{house}
-use Rattle.networks.specs.Judge.{Finding, pass, held, firstFinding, fault, stop, verdictFrom}
+use Rattle.lists.specs.Answer.{given, Answer}
+use Rattle.reading.specs.House.{house}
+use Rattle.networks.specs.Judge.{Finding, pass, held, firstFinding, fault, stop, verdictFrom, Verdict}
 use Rattle.networks.specs.Network.{Own, Box, Wire, asOwn}
 use Rattle.networks.specs.Solution.{bestOf, due}
 use Rattle.records.specs.Edge.{edgeTo, edgeFrom, edgeKey}
-use Rattle.records.specs.Form.{nodeWidth}
-use Rattle.records.specs.Layout.{nodeCount, edgeCount, nodePart, nodeOffset, edgePart, edgeOffset}
-use Rattle.records.specs.Node.{nodeId, isOwn}
-use Rattle.records.specs.declared.Form.{Form}
+use Rattle.layout.specs.Form.{nodeWidth}
+use Rattle.layout.specs.Layout.{nodeCount, edgeCount, nodePart, nodeOffset, edgePart, edgeOffset}
+use Rattle.nodes.specs.Node.{nodeId, isOwn}
+use Rattle.layout.specs.declared.Form.{Form}
 use Rattle.reading.specs.Parts.{boxAt, wireAt, promiseAt, demandAt}
 use Rattle.reading.specs.Whole.{HouseNetwork, HouseList, readNetwork, readList}
-use Rattle.judging.specs.Judging.{highest, verdictAt}
-use Rattle.judging.specs.Offer.{givenBy, offerAt, faultOf}
-use Rattle.judging.specs.Walk.{leadsUpTo, withWire}
+use Rattle.routes.specs.Carry.{highest}
+use Rattle.judging.specs.Judging.{verdictAt}
+use Rattle.judging.specs.OwnBox.{faultOf}
+use Rattle.judging.specs.Wires.{givenBy, offerAt}
 
 module _ (f : Form) (network list : List ℕ) where
   abbrev N : HouseNetwork
@@ -72,6 +77,10 @@ module _ (f : Form) (network list : List ℕ) where
   pub record Left (i count : ℕ) : Type 0 where
     pub is : given (verdictFrom (house highest) N L count (filterMap asOwn (boxesFrom i))) ≡ verdictAt f network list
 
+  -- the verdict where a box was judged with this finding, or none, and those from row i on are left
+  abbrev pub stoppedAt : Option (Finding Route) → ℕ → ℕ → ℕ → Answer (Verdict Route)
+  stoppedAt y node count i = given (stop (house highest) y node count (verdictFrom (house highest) N L count (filterMap asOwn (boxesFrom i))))
+
   wires-start : N .wires ≡ wiresFrom 0
   unfolding readNetwork
   wires-start = ap₂ (rows (wireAt network) 5) (sym (at-zero (edgePart f network) 5)) (sym (sub-zero (edgeCount network)))
@@ -103,17 +112,18 @@ module _ (f : Form) (network list : List ℕ) where
     pub wire-skips : (node : ℕ) → edgeTo f network j ≤ node → Skipped j (node + 1) → Skipped (j + 1) (node + 1)
     wire-skips node m k = record { skipped = λ x g. k .skipped x g ∙ other x (λ e. omega arith) }
 
-    pub wire-due : (node : ℕ) (initial r x : Route) → x ≡ withWire f network list j node r → Due node initial r j → Due node initial x (j + 1)
-    unfolding withWire offerAt edgeOffset
-    wire-due node initial r x e d = record { is = d .is ∙ go (eqb (edgeTo f network j) node) refl ∙ ap (λ (y : Route). dueOver node y (wiresFrom (j + 1))) (sym e) }
-      where
-        go : (t : Bool) → eqb (edgeTo f network j) node ≡ t → dueOver node r (wiresFrom j) ≡ dueOver node (withWire f network list j node r) (wiresFrom (j + 1))
-        go true q = ap (λ (ws : List Wire). bestOf (house highest) r (map (givenBy f network list) ws)) (mine node (eqb-true (edgeTo f network j) node q)) ∙ rw q
-        go false q = ap (λ (ws : List Wire). bestOf (house highest) r (map (givenBy f network list) ws)) (other node (eqb-false (edgeTo f network j) node q)) ∙ rw q
+    pub wire-due : (node : ℕ) (initial r x : Route) → edgeTo f network j ≡ node → x ≡ best beats r (offerAt f network list (edgeOffset f network j)) → Due node initial r j
+        → Due node initial x (j + 1)
+    unfolding offerAt edgeOffset
+    wire-due node initial r x e q d = record {
+      is = d .is
+          ∙ ap (λ (ws : List Wire). bestOf (house highest) r (map (givenBy f network list) ws)) (mine node e)
+          ∙ ap (λ (y : Route). dueOver node y (wiresFrom (j + 1))) (sym q);
+    }
 
   -- past the last wire into a box: edges rise by their to end first
   module _ (small : Bytes network) (sorted : (k : ℕ) → k < edgeCount network → least (edgeKey f network) k ≤ edgeKey f network k) where
-    to-rises : (j : ℕ) → j + 1 < edgeCount network → edgeTo f network j ≤ edgeTo f network (j + 1)
+    pub to-rises : (j : ℕ) → j + 1 < edgeCount network → edgeTo f network j ≤ edgeTo f network (j + 1)
     unfolding edgeKey edgeFrom
     to-rises j l =
         let h = sorted (j + 1) l in
@@ -128,17 +138,10 @@ module _ (f : Form) (network list : List ℕ) where
         other j (omega arith) node (λ e. omega arith)
         ∙ past node m (j + 1) (omega arith) (λ l. let r = to-rises j l in omega arith)
 
-    pub wires-past : (node j : ℕ) (initial r : Route) (t : Bool) → t ≡ leadsUpTo f network j node → t ≡ false → Due node initial r j → dueOver node initial (N .wires) ≡ r
-    unfolding leadsUpTo
-    wires-past node j initial r t w y d = d .is ∙ ap (λ (ws : List Wire). bestOf (house highest) r (map (givenBy f network list) ws)) (none-left (le-or-lt (edgeCount network) j))
-      where
-        test : ltb j (edgeCount network) && leb (edgeTo f network j) node ≡ false
-        test = sym w ∙ y
-
-        none-left : (edgeCount network ≤ j) ⊎ (j < edgeCount network) → into node (wiresFrom j) ≡ []
-        none-left (inl l) = ap (into node) (rows-end (wireAt network) 5 (edgePart f network) (edgeCount network) j l)
-        none-left (inr l) = past node (edgeCount network - j) j (omega arith)
-            (λ m. leb-false (edgeTo f network j) node (rw (lt-ltb j (edgeCount network) l) at test))
+    pub wires-past : (node j : ℕ) (initial r : Route) → j ≤ edgeCount network → (j < edgeCount network → node < edgeTo f network j) → Due node initial r j
+        → dueOver node initial (N .wires) ≡ r
+    wires-past node j initial r l h d =
+        d .is ∙ ap (λ (ws : List Wire). bestOf (house highest) r (map (givenBy f network list) ws)) (past node (edgeCount network - j) j (omega arith) h)
 
   -- one box
   pub skip-more : (j lo hi : ℕ) → lo ≤ hi → Skipped j lo → Skipped j hi
@@ -170,20 +173,22 @@ module _ (f : Form) (network list : List ℕ) where
           demand = demandAt network (at (nodePart network) (nodeWidth f) i + 4 + f .route + f .route);
         }
 
-        own-here : given (stop (house highest) (fault (house highest) N L box) (box .id) (suc count) (verdictFrom (house highest) N L (suc count) (filterMap asOwn (boxesFrom (i + 1))))) ≡ verdictAt f network list
+        own-here : stoppedAt (fault (house highest) N L box) (box .id) (suc count) (i + 1) ≡ verdictAt f network list
         unfolding isOwn boxAt nodeOffset filterMap verdictFrom
         own-here = rw q at here
 
-        fault-is : (x u : Route) → x ≡ held (house highest) L (nodeId f network i) → dueOver (nodeId f network i) (box .initial) (N .wires) ≡ u → fault (house highest) N L box ≡ faultOf f network i x u
+        fault-is : (x u : Route) → x ≡ held (house highest) L (nodeId f network i) → dueOver (nodeId f network i) (box .initial) (N .wires) ≡ u
+            → fault (house highest) N L box ≡ faultOf f network i x u
         unfolding fault faultOf due nodeId nodeOffset
         fault-is x u e d = ap₂ (λ (a b : Route). firstFinding (house highest) a b (box .promise) (box .demand)) (sym e) d
 
-        pub left-fault : (node : ℕ) (initial x u : Route) (y : Option (Finding Route)) → node ≡ nodeId f network i → initial ≡ routeAt (f .route) network (nodeOffset f network i + 3)
+        pub left-fault : (node : ℕ) (initial x u : Route) (y : Option (Finding Route)) → node ≡ nodeId f network i
+            → initial ≡ routeAt (f .route) network (nodeOffset f network i + 3)
             → x ≡ held (house highest) L (nodeId f network i) → dueOver node initial (N .wires) ≡ u → y ≡ faultOf f network i x u
-            → given (stop (house highest) y node (count + 1) (verdictFrom (house highest) N L (count + 1) (filterMap asOwn (boxesFrom (i + 1))))) ≡ verdictAt f network list
+            → stoppedAt y node (count + 1) (i + 1) ≡ verdictAt f network list
         unfolding nodeId nodeOffset
         left-fault node initial x u y p r e d w =
             let is : fault (house highest) N L box ≡ y = fault-is x u e (ap₂ (λ (k : ℕ) (z : Route). dueOver k z (N .wires)) (sym p) (sym r) ∙ d) ∙ sym w in
-            ap (λ (t : Option (Finding Route)). given (stop (house highest) t node (count + 1) (verdictFrom (house highest) N L (count + 1) (filterMap asOwn (boxesFrom (i + 1)))))) (sym is)
-            ∙ ap₂ (λ (k c : ℕ). given (stop (house highest) (fault (house highest) N L box) k c (verdictFrom (house highest) N L c (filterMap asOwn (boxesFrom (i + 1)))))) p (add-one count)
+            ap (λ (t : Option (Finding Route)). stoppedAt t node (count + 1) (i + 1)) (sym is)
+            ∙ ap₂ (λ (k c : ℕ). stoppedAt (fault (house highest) N L box) k c (i + 1)) p (add-one count)
             ∙ own-here

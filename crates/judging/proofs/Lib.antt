@@ -1,16 +1,17 @@
 -- What the two records say at the places that the search looks at, and what the program prints.
 pub mod Said
+pub mod PartLaws
 pub mod BoxLaws
-pub mod PlaceLaws
-pub mod KeepLaws
-pub mod SenderLaws
-pub mod WalkLaws
+pub mod PreparedLaws
+pub mod StandLaws
+pub mod LookupLaws
+pub mod WireLaws
 pub mod LeftLaws
 pub mod SearchLaws
+pub mod PrepareLaws
 pub mod EntryLaws
-pub mod NeighbourLaws
-pub mod Neighbours
 pub mod TextLaws
 -- A verdict by its answer; the theorems about networks, on bytes.
 pub mod Answers
 pub mod OnBytes
+pub mod Neighbours

@@ -1,104 +1,175 @@
 -- What the two loops of the search keep, and one law for each way through them.
-use mathlib.Core.Path.{_≡_, sym, ap, _∙_, subst}
-use mathlib.Core.Bool.{Bool, true, false, not, _&&_}
-use mathlib.Core.List.{List, filterMap}
+--     Next, Ahead               the next wire; a sound network's wires lead to own boxes, so that none is passed over
+--     Searching, searching      the outer loop, before the box in row i
+--     Wiring, wiring            the inner loop, at the own box in a row
+use mathlib.Core.Path.{_≡_, refl, sym, ap, _∙_, subst}
+use mathlib.Core.Bool.{Bool, true, false, not}
+use mathlib.Core.List.{List}
+use mathlib.Core.Logic.{⊎-elim}
 use mathlib.Core.Option.{Option, none, some}
-use Prim.Native.Nat.{ℕ, _+_, _-_, _≤_, _<_, zero-le}
+use Prim.Native.Nat.{ℕ, zero, suc, _+_, _-_, _≤_, _<_, zero-le}
+use native.Mathlib.Nat.{not-suc-le-zero, eq-or-lt-of-le, le-of-suc-le-suc}
 use native.Mathlib.Omega.{arith}
-use lib.Dec.{leb, ltb}
+use lib.Dec.{leb}
 use lib.ListN.{length}
-use borrow.Author.Count.{falls}
 use mir.Syntax.{w64}
 use mir.Val.{Fits}
-use borrow.Author.Tests.{ltb-true, leb-true, not-true, not-false}
-use Rattle.lists.specs.Rising.{least, least-next}
-use Rattle.lists.specs.Rows.{rows}
-use Rattle.lists.specs.Stride.{at}
-use Rattle.lists.specs.Test.{and-l, and-r}
+use borrow.Author.Tests.{leb-true, lt-ltb, le-ltb, not-true, not-false}
+use Rattle.lists.specs.Best.{best}
+use Rattle.lists.specs.Rising.{Rising, least}
+use Rattle.lists.proofs.Rising.{least-next}
+use Rattle.lists.proofs.Test.{and-l, and-r, le-or-lt}
 use Rattle.numbers.specs.BigEndian.{u16At}
 use Rattle.routes.specs.Form.{routeAt}
+use Rattle.routes.specs.Order.{beats}
 use Rattle.routes.specs.declared.Route.{Route}
-use Rattle.networks.specs.Answer.{given}
-use Rattle.networks.specs.House.{house}
-use Rattle.networks.specs.Judge.{Finding, pass, found, held, fault, stop, verdictFrom}
-use Rattle.networks.specs.Network.{asOwn}
-use Rattle.networks.specs.Solution.{due}
-use Rattle.records.specs.Edge.{edgeTo, edgeKey}
-use Rattle.records.specs.Layout.{Room, nodeCount, edgeCount, nodeOffset}
-use Rattle.records.specs.Node.{nodeId, nodeOk, nodeFormed, isOwn}
-use Rattle.records.specs.Offsets.{fine-room}
-use Rattle.records.specs.declared.Form.{Form}
-use Rattle.reading.specs.Whole.{readNetwork, readList}
-use Rattle.reading.proofs.Said.{edge-parts}
-use Rattle.judging.specs.Judging.{highest, verdictAt}
-use Rattle.judging.specs.Offer.{faultOf}
-use Rattle.judging.specs.Ready.{Listed, Ready, Kept, Prepared}
-use Rattle.judging.specs.Walk.{leadsUpTo, withWire}
-use Rattle.judging.proofs.LeftLaws.{boxesFrom, Skipped, Due, Left, skip-start, left-start, wire-skips, wire-due, wires-past, skip-more, due-start, left-end, left-input, left-fault}
+use Rattle.lists.specs.Answer.{given}
+use Rattle.reading.specs.House.{house}
+use Rattle.networks.specs.Judge.{Finding, pass, found, held}
+use Rattle.records.specs.Edge.{boxed, owned, edgeTo, edgeKey}
+use Rattle.layout.specs.Layout.{Room, nodeCount, edgeCount, nodeOffset, edgePart, edgeOffset}
+use Rattle.nodes.specs.Node.{nodeId, nodeOk, nodeFormed, rowOf, isOwn}
+use Rattle.layout.proofs.Places.{edge-first, edge-after, edge-room}
+use Rattle.records.proofs.RowLaws.{row-within, row-found}
+use Rattle.layout.specs.declared.Form.{Form}
+use Rattle.reading.specs.Whole.{readList}
+use Rattle.reading.proofs.Said.{Edge, edge-parts}
+use Rattle.judging.specs.Answers.{findingOf}
+use Rattle.records.specs.Checked.{CheckedNetwork}
+use Rattle.routes.specs.Carry.{highest}
+use Rattle.judging.specs.Judging.{verdictAt}
+use Rattle.judging.specs.OwnBox.{ownBoxAt, faultOf}
+use Rattle.judging.specs.Prepared.{Standing, Prepared}
+use Rattle.judging.specs.Wires.{WireAt, nextFrom, offerAt}
+use Rattle.judging.specs.declared.Fault.{Fault}
+use Rattle.judging.specs.declared.Fault.the-variants.{NoFault, FaultDue, FaultPromise, FaultDemand}
+use Rattle.judging.specs.declared.NextWire.{NextWire}
+use Rattle.judging.specs.declared.OwnBox.{OwnBox}
+use Rattle.judging.proofs.LeftLaws.{stoppedAt, Skipped, Due, Left, skip-start, left-start, wire-skips, wire-due, to-rises, wires-past, skip-more, due-start, left-end, left-input, left-fault}
+use Rattle.judging.proofs.PreparedLaws.{prepared-standing, prepared-checked}
 
--- The outer loop, before the box in row i.
-pub record SearchingFacts (f : Form) (network list : List ℕ) (n i j count : ℕ) : Type 0 where
+-- The next wire is the j-th, and those before it lead to boxes below lo.
+pub record Next (f : Form) (network list : List ℕ) (wire : NextWire) (lo j : ℕ) : Type 0 where
+  pub within : j ≤ edgeCount network
+  pub is : wire ≡ nextFrom network (edgeOffset f network j)
+  pub skipped : Skipped f network list j lo
+
+-- The wires from the j-th on lead to boxes from an id on.
+abbrev pub Ahead : Form → List ℕ → ℕ → ℕ → Type 0
+Ahead f network lo j = j < edgeCount network → lo ≤ edgeTo f network j
+
+-- The verdict from here is the verdict from the start.
+pub record SearchingFacts (f : Form) (network list rows stands : List ℕ) (n i count : ℕ) (wire : NextWire) : Type 0 where
+  pub prepared : Prepared f network list rows stands
   pub within : i ≤ n
   pub nodes : n ≡ nodeCount network
   pub counted : count ≤ i
-  pub skipped : Skipped f network list j (least (nodeId f network) i)
   pub left : Left f network list i count
+  pub j : ℕ
+  pub next : Next f network list wire (least (nodeId f network) i) j
+  pub ahead : Ahead f network (least (nodeId f network) i) j
 
--- The inner loop, at the box with an id and an initial route.
-pub record WiringFacts (f : Form) (network list : List ℕ) (node : ℕ) (initial r : Route) (j : ℕ) : Type 0 where
-  pub due : Due f network list node initial r j
-  pub skipped : Skipped f network list j (node + 1)
+-- What the wires that are left make of the route u is the due route of the box in a row.
+pub record WiringFacts (f : Form) (network list rows stands : List ℕ) (n i count row node : ℕ) (u : Route) (wire : NextWire) : Type 0 where
+  pub prepared : Prepared f network list rows stands
+  pub there : row < n
+  pub nodes : n ≡ nodeCount network
+  pub behind : i ≡ row + 1
+  pub own : isOwn f network row ≡ true
+  pub named : node ≡ nodeId f network row
+  pub before : ℕ
+  pub counts : count ≡ before + 1
+  pub counted : before ≤ row
+  pub left : Left f network list row before
+  pub j : ℕ
+  pub next : Next f network list wire (node + 1) j
+  pub ahead : Ahead f network node j
+  pub due : Due f network list node (routeAt (f .route) network (nodeOffset f network row + 3)) u j
 
 -- Both are shut, so that the loops carry them whole.
-unfoldable pub Searching : Form → List ℕ → List ℕ → ℕ → ℕ → ℕ → ℕ → Type 0
-Searching f network list n i j count = SearchingFacts f network list n i j count
+unfoldable pub Searching : Form → List ℕ → List ℕ → List ℕ → List ℕ → ℕ → ℕ → ℕ → NextWire → Type 0
+Searching f network list rows stands n i count wire = SearchingFacts f network list rows stands n i count wire
 
-unfoldable pub Wiring : Form → List ℕ → List ℕ → ℕ → Route → Route → ℕ → Type 0
-Wiring f network list node initial r j = WiringFacts f network list node initial r j
+unfoldable pub Wiring : Form → List ℕ → List ℕ → List ℕ → List ℕ → ℕ → ℕ → ℕ → ℕ → ℕ → Route → NextWire → Type 0
+Wiring f network list rows stands n i count row node u wire = WiringFacts f network list rows stands n i count row node u wire
 
-pub prepared : (f : Form) (network list rows there fields : List ℕ) → Ready f network list rows → Kept f network list there fields (nodeCount network) → Prepared f network list rows there fields
-unfolding Prepared
-prepared f network list rows there fields r k = (r, k)
+-- an id before place i is below the least that may stand there
+least-above : (ids : ℕ → ℕ) (n r i : ℕ) → Rising ids n → r < i → i ≤ n → ids r < least ids i
+unfolding Rising least
+least-above ids n r zero h l m = absurd (not-suc-le-zero l)
+least-above ids n r (suc k) h l m = ⊎-elim (λ (e : r ≡ k). rw e (omega arith)) (λ (g : r < k). let z = h r k g (omega arith) in omega arith) (eq-or-lt-of-le (le-of-suc-le-suc l))
 
-module _ (f : Form) (network list rows there fields : List ℕ) (both : Prepared f network list rows there fields) where
-  h : Ready f network list rows
-  unfolding Prepared
-  h = both .0
-
-  pub search-ready : Ready f network list rows
-  search-ready = h
-
-  pub search-kept : Kept f network list there fields (nodeCount network)
-  unfolding Prepared
-  search-kept = both .1
-
-  pub search-room : Room f network
-  search-room = fine-room f network (h .listed .usable) (h .listed .sound)
-
-  pub search-counts : 5 + 2 ≤ length network
-  search-counts = let l = search-room .long in omega arith
-
-  pub search-few : edgeCount network ≤ 4096
-  search-few = h .listed .sound .few-edges
-
-  pub search-listed : Listed f network list
-  search-listed = h .listed
-
+module _ (f : Form) (network : List ℕ) (checked : CheckedNetwork f network) where
   ids-rise : (i : ℕ) → i < nodeCount network → least (nodeId f network) i ≤ nodeId f network i
   unfolding nodeOk
-  ids-rise i l = leb-true _ _ (and-l (leb (least (nodeId f network) i) (nodeId f network i)) (nodeFormed (f .route) network (nodeOffset f network i)) (h .listed .sound .nodes i l))
+  ids-rise i l = leb-true _ _ (and-l (leb (least (nodeId f network) i) (nodeId f network i)) (nodeFormed (f .route) network (nodeOffset f network i)) (checked .sound .nodes i l))
+
+  edge : (j : ℕ) → j < edgeCount network → Edge f network j
+  edge j l = edge-parts f network j (checked .sound .edges j l)
 
   edges-rise : (j : ℕ) → j < edgeCount network → least (edgeKey f network) j ≤ edgeKey f network j
-  edges-rise j l = edge-parts f network j (h .listed .sound .edges j l) .rises
+  edges-rise j l = edge j l .rises
 
-  pub search-start : (n m : ℕ) → n ≡ m → m ≡ u16At network 5 → Searching f network list n 0 0 0
-  unfolding Searching
-  search-start n m p q = record { within = zero-le; nodes = p ∙ q; counted = zero-le; skipped = skip-start f network list _; left = left-start f network list }
+  -- the wires lead to own boxes, and so to none between two boxes
+  module _ (i j : ℕ) (l : i < nodeCount network) (a : Ahead f network (least (nodeId f network) i) j) (m : j < edgeCount network) where
+    abbrev to-row : ℕ
+    to-row = rowOf f network (edgeTo f network j)
 
-  module _ (n i j count : ℕ) (kept : Searching f network list n i j count) where
-    s : SearchingFacts f network list n i j count
+    to-boxed : boxed f network (edgeTo f network j) ≡ true
+    unfolding owned
+    to-boxed = and-l (boxed f network (edgeTo f network j)) (isOwn f network to-row) (edge j m .to-own)
+
+    to-own : isOwn f network to-row ≡ true
+    unfolding owned
+    to-own = and-r (boxed f network (edgeTo f network j)) (isOwn f network to-row) (edge j m .to-own)
+
+    to-from : i ≤ to-row
+    to-from = ⊎-elim (λ g. g)
+        (λ (g : to-row < i). absurd (let z = a m in
+        omega (arith, least-above (nodeId f network) (nodeCount network) to-row i (checked .rising) g (omega arith), row-found f network (edgeTo f network j) to-boxed)))
+        (le-or-lt i to-row)
+
+    above : i < to-row → nodeId f network i < edgeTo f network j
+    unfolding Rising
+    above g = let z = checked .rising i to-row g (row-within f network (edgeTo f network j) to-boxed) in omega (arith, row-found f network (edgeTo f network j) to-boxed)
+
+    box-ahead : nodeId f network i ≤ edgeTo f network j
+    box-ahead = ⊎-elim
+        (λ (g : i ≡ to-row). let z = row-found f network (edgeTo f network j) to-boxed in rw g (omega arith))
+        (λ (g : i < to-row). let z = above g in omega arith)
+        (eq-or-lt-of-le to-from)
+
+    input-ahead : isOwn f network i ≡ false → least (nodeId f network) (i + 1) ≤ edgeTo f network j
+    input-ahead q = ⊎-elim
+        (λ (g : i ≡ to-row). absurd (let z : true ≡ false = sym to-own ∙ ap (isOwn f network) (sym g) ∙ q in let y : _≡_ {A = ℕ} 0 1 = cc in omega arith))
+        (λ (g : i < to-row). let z = above g in let e = least-next (nodeId f network) i in omega arith)
+        (eq-or-lt-of-le to-from)
+
+module _ (f : Form) (network list rows stands : List ℕ) where
+  pub search-start : (n m : ℕ) (wire : NextWire) → Prepared f network list rows stands → n ≡ m → m ≡ u16At network 5 → wire ≡ nextFrom network (edgePart f network)
+      → Searching f network list rows stands n 0 0 wire
+  unfolding Searching least
+  search-start n m wire h p q e = record {
+    prepared = h;
+    within = zero-le;
+    nodes = p ∙ q;
+    counted = zero-le;
+    left = left-start f network list;
+    j = 0;
+    next = record { within = zero-le; is = e ∙ ap (nextFrom network) (sym (edge-first f network)); skipped = skip-start f network list _ };
+    ahead = λ l. zero-le;
+  }
+
+  module _ (n i count : ℕ) (wire : NextWire) (kept : Searching f network list rows stands n i count wire) where
+    s : SearchingFacts f network list rows stands n i count wire
     unfolding Searching
     s = kept
+
+    checked : CheckedNetwork f network
+    checked = prepared-checked f network list rows stands (s .prepared)
+
+    pub search-room : Room f network
+    search-room = checked .room
 
     pub search-pass : n ≤ i → given (pass count) ≡ verdictAt f network list
     search-pass l = left-end f network list i count (s .left) (let e = s .nodes in omega arith)
@@ -110,78 +181,170 @@ module _ (f : Form) (network list rows there fields : List ℕ) (both : Prepared
       pub search-count : n < 65536 → Fits w64 (count + 1)
       search-count b = let c = s .counted in omega arith
 
-      next-least : least (nodeId f network) i ≤ least (nodeId f network) (i + 1)
-      next-least = let r = ids-rise i search-row in let e = least-next (nodeId f network) i in omega arith
-
       module _ (t : Bool) (w : t ≡ isOwn f network i) where
-        pub search-input : not t ≡ true → Searching f network list n (i + 1) j count
+        pub search-input : not t ≡ true → Searching f network list rows stands n (i + 1) count wire
         unfolding Searching
-        search-input y = record {
-          within = omega arith;
-          nodes = s .nodes;
-          counted = let c = s .counted in omega arith;
-          skipped = skip-more f network list j _ _ next-least (s .skipped);
-          left = left-input f network list i count (s .left) search-row (sym w ∙ not-true t y);
-        }
-
-        pub search-own : not t ≡ false → isOwn f network i ≡ true
-        search-own y = sym w ∙ not-false t y
-
-        module _ (node : ℕ) (p : node ≡ nodeId f network i) where
-          pub search-wires : (initial : Route) → Wiring f network list node initial initial j
-          unfolding Wiring
-          search-wires initial =
-              let r : least (nodeId f network) i ≤ node = let q = ids-rise i search-row in omega arith in
-              record { due = due-start f network list node j _ initial r (s .skipped); skipped = skip-more f network list j _ _ (omega arith) (s .skipped) }
-
-          module _ (y : not t ≡ false) (initial : Route) (q : initial ≡ routeAt (f .route) network (nodeOffset f network i + 3))
-              (k : ℕ) (u : Route) (wired : Wiring f network list node initial u k) (z : Bool) (g : z ≡ leadsUpTo f network k node) (last : z ≡ false)
-              (x : Route) (held-is : x ≡ held (house highest) (readList f list) (nodeId f network i)) where
-            v : WiringFacts f network list node initial u k
-            unfolding Wiring
-            v = wired
-
-            -- what the fault at the box makes of the verdict
-            search-fault : (o : Option (Finding Route)) → o ≡ faultOf f network i x u
-                → given (stop (house highest) o node (count + 1) (verdictFrom (house highest) (readNetwork f network) (readList f list) (count + 1) (filterMap asOwn (boxesFrom f network list (i + 1))))) ≡ verdictAt f network list
-            search-fault o e = left-fault f network list i count (s .left) search-row (search-own y) node initial x u o p q held-is
-                (wires-past f network list (h .small) edges-rise node k initial u z g last (v .due)) e
-
-            pub search-found : (number : ℕ) (route : Route) → some (record { number = number; route = route }) ≡ faultOf f network i x u
-                → given (found number node route (count + 1)) ≡ verdictAt f network list
-            search-found number route e = search-fault (some (record { number = number; route = route })) e
-
-            pub search-next : none ≡ faultOf f network i x u → Searching f network list n (i + 1) k (count + 1)
-            unfolding Searching
-            search-next e = record {
+        search-input y =
+            let up : least (nodeId f network) i ≤ least (nodeId f network) (i + 1) = let r = ids-rise f network checked i search-row in let e = least-next (nodeId f network) i in omega arith in
+            record {
+              prepared = s .prepared;
               within = omega arith;
               nodes = s .nodes;
               counted = let c = s .counted in omega arith;
-              skipped = subst (λ (m : ℕ). Skipped f network list k m) (ap (λ (m : ℕ). m + 1) p ∙ least-next (nodeId f network) i) (v .skipped);
-              left = record { is = search-fault none e };
+              left = left-input f network list i count (s .left) search-row (sym w ∙ not-true t y);
+              j = s .j;
+              next = record { within = s .next .within; is = s .next .is; skipped = skip-more f network list (s .j) _ _ up (s .next .skipped) };
+              ahead = λ m. input-ahead f network checked i (s .j) search-row (s .ahead) m (sym w ∙ not-true t y);
             }
 
-  -- one wire
-  module _ (node : ℕ) (initial r : Route) (j : ℕ) (wired : Wiring f network list node initial r j) (z : Bool) (g : z ≡ leadsUpTo f network j node) (y : z ≡ true) where
-    leads : ltb j (edgeCount network) && leb (edgeTo f network j) node ≡ true
-    unfolding leadsUpTo
-    leads = sym g ∙ y
+        pub search-wires : (own : OwnBox) → not t ≡ false → own ≡ ownBoxAt f network i → Wiring f network list rows stands n (i + 1) (count + 1) i (own .node) (own .initial) wire
+        unfolding Wiring ownBoxAt
+        search-wires own y p =
+            let named : own .node ≡ nodeId f network i = ap (λ (b : OwnBox). b .node) p in
+            let low : least (nodeId f network) i ≤ own .node = let r = ids-rise f network checked i search-row in omega arith in
+            record {
+              prepared = s .prepared;
+              there = l;
+              nodes = s .nodes;
+              behind = refl;
+              own = sym w ∙ not-false t y;
+              named = named;
+              before = count;
+              counts = refl;
+              counted = s .counted;
+              left = s .left;
+              j = s .j;
+              next = record { within = s .next .within; is = s .next .is; skipped = skip-more f network list (s .j) _ _ (omega arith) (s .next .skipped) };
+              ahead = λ m. let z = box-ahead f network checked i (s .j) search-row (s .ahead) m in omega arith;
+              due = subst (λ (r : Route). Due f network list (own .node) r (own .initial) (s .j)) (ap (λ (b : OwnBox). b .initial) p)
+                  (due-start f network list (own .node) (s .j) _ (own .initial) low (s .next .skipped));
+            }
 
-    pub wiring-there : j < edgeCount network
-    wiring-there = ltb-true _ _ (and-l (ltb j (edgeCount network)) (leb (edgeTo f network j) node) leads)
+-- at the own box in a row
+module _ (f : Form) (network list rows stands : List ℕ) (n i count row node : ℕ) (u : Route) (wire : NextWire) (kept : Wiring f network list rows stands n i count row node u wire) where
+  w : WiringFacts f network list rows stands n i count row node u wire
+  unfolding Wiring
+  w = kept
 
-    pub wiring-less : edgeCount network - (j + 1) < edgeCount network - j
-    wiring-less = falls (edgeCount network) j wiring-there
+  pub wiring-prepared : Prepared f network list rows stands
+  wiring-prepared = w .prepared
 
-    facts : WiringFacts f network list node initial r j
-    unfolding Wiring
-    facts = wired
+  pub wiring-standing : Standing f network list stands
+  wiring-standing = prepared-standing f network list rows stands (w .prepared)
 
-    pub wiring-next : (x : Route) → x ≡ withWire f network list j node r → Wiring f network list node initial x (j + 1)
-    unfolding Wiring
-    wiring-next x e = record {
-      due = wire-due f network list j wiring-there node initial r x e (facts .due);
-      skipped = wire-skips f network list j wiring-there node (leb-true _ _ (and-r (ltb j (edgeCount network)) (leb (edgeTo f network j) node) leads)) (facts .skipped);
-    }
+  pub wiring-checked : CheckedNetwork f network
+  wiring-checked = prepared-checked f network list rows stands (w .prepared)
 
-pub ruleset searching = (search-ready, search-room, search-counts, search-few, search-listed, search-start, search-pass, search-row, search-count, search-input, search-own, search-wires, search-found, search-next, wiring-there, wiring-less, wiring-next)
+  pub wiring-row : row < nodeCount network
+  wiring-row = let e = w .nodes in let l = w .there in omega arith
+
+  pub wiring-own : isOwn f network row ≡ true
+  wiring-own = w .own
+
+  wire-at : wire .at ≡ edgeOffset f network (w .j)
+  unfolding nextFrom
+  wire-at = ap (λ (x : NextWire). x .at) (w .next .is)
+
+  -- the next wire's to end, by whether there is one
+  to-there : w .j < edgeCount network → wire .to ≡ edgeTo f network (w .j)
+  unfolding nextFrom edgeTo
+  to-there l =
+      ap (λ (x : NextWire). x .to) (w .next .is)
+      ∙ rw (lt-ltb (edgeOffset f network (w .j)) (length network) (let r = edge-room f network (wiring-checked .room) (w .j) l in omega arith))
+
+  to-none : edgeCount network ≤ w .j → wire .to ≡ 65536
+  unfolding nextFrom
+  to-none l =
+      let last : w .j ≡ edgeCount network = let k = w .next .within in omega arith in
+      ap (λ (x : NextWire). x .to) (w .next .is)
+      ∙ rw (le-ltb (edgeOffset f network (w .j)) (length network) (let e = wiring-checked .sound .whole in omega (arith, ap (edgeOffset f network) last)))
+
+  module _ (k : ℕ) (q : k ≡ node) (small : k < 65536) where
+    -- a wire into the box
+    module _ (e : wire .to ≡ k) where
+      there : w .j < edgeCount network
+      there = ⊎-elim (λ (g : edgeCount network ≤ w .j). absurd (let z = to-none g in omega arith)) (λ g. g) (le-or-lt (edgeCount network) (w .j))
+
+      mine : edgeTo f network (w .j) ≡ node
+      mine = sym (to-there there) ∙ e ∙ q
+
+      pub wiring-wire : WireAt f network (wire .at)
+      wiring-wire = record { row = w .j; there = there; at = wire-at }
+
+      module _ (next : NextWire) (g : next ≡ nextFrom network (wire .at + 5)) where
+        pub wiring-less : length network - next .at < length network - wire .at
+        unfolding nextFrom
+        wiring-less =
+            let a : next .at ≡ wire .at + 5 = ap (λ (x : NextWire). x .at) g in
+            let r = edge-room f network (wiring-checked .room) (w .j) there in
+            omega (arith, wire-at)
+
+        pub wiring-next : (x : Route) → x ≡ best beats u (offerAt f network list (wire .at)) → Wiring f network list rows stands n i count row node x next
+        unfolding Wiring
+        wiring-next x y = record {
+          prepared = w .prepared;
+          there = w .there;
+          nodes = w .nodes;
+          behind = w .behind;
+          own = w .own;
+          named = w .named;
+          before = w .before;
+          counts = w .counts;
+          counted = w .counted;
+          left = w .left;
+          j = w .j + 1;
+          next = record {
+            within = let l = there in omega arith;
+            is = g ∙ ap (nextFrom network) (ap (λ (o : ℕ). o + 5) wire-at ∙ sym (edge-after f network (w .j)));
+            skipped = wire-skips f network list (w .j) there node (let z = mine in omega arith) (w .next .skipped);
+          };
+          ahead = λ m. let z = mine in omega (arith, to-rises f network list (wiring-checked .bytes) (edges-rise f network wiring-checked) (w .j) m);
+          due = wire-due f network list (w .j) there node _ u x mine (y ∙ ap (λ (o : ℕ). best beats u (offerAt f network list o)) wire-at) (w .due);
+        }
+
+    -- no further wire into the box
+    module _ (ne : wire .to ≡ k → ⊥) where
+      past : w .j < edgeCount network → node < edgeTo f network (w .j)
+      past m =
+          let a = w .ahead m in
+          let e = to-there m in
+          let z : edgeTo f network (w .j) ≡ node → ⊥ = λ p. ne (e ∙ p ∙ sym q) in
+          omega arith
+
+      -- what the fault at the box makes of the verdict
+      at-fault : (o : Option (Finding Route)) → o ≡ faultOf f network row (held (house highest) (readList f list) (nodeId f network row)) u
+          → stoppedAt f network list o node (w .before + 1) (row + 1) ≡ verdictAt f network list
+      at-fault o e = left-fault f network list row (w .before) (w .left) wiring-row (w .own) node _ _ u o (w .named) refl refl
+          (wires-past f network list (wiring-checked .bytes) (edges-rise f network wiring-checked) node (w .j) _ u (w .next .within) past (w .due)) e
+
+      module _ (r : Fault) (a : findingOf r ≡ faultOf f network row (held (house highest) (readList f list) (nodeId f network row)) u) where
+        at-found : (number : ℕ) (route : Route) → some (record { number = number; route = route }) ≡ findingOf r → given (found number node route count) ≡ verdictAt f network list
+        at-found number route e = ap (λ (c : ℕ). given (found number node route c)) (w .counts) ∙ at-fault (some (record { number = number; route = route })) (e ∙ a)
+
+        pub wiring-due : (route : Route) → r ≡ FaultDue route → given (found 31 node route count) ≡ verdictAt f network list
+        wiring-due route e = at-found 31 route (ap findingOf (sym e))
+
+        pub wiring-promise : (route : Route) → r ≡ FaultPromise route → given (found 32 node route count) ≡ verdictAt f network list
+        wiring-promise route e = at-found 32 route (ap findingOf (sym e))
+
+        pub wiring-demand : (route : Route) → r ≡ FaultDemand route → given (found 33 node route count) ≡ verdictAt f network list
+        wiring-demand route e = at-found 33 route (ap findingOf (sym e))
+
+        pub wiring-end : r ≡ NoFault → Searching f network list rows stands n i count wire
+        unfolding Searching
+        wiring-end e =
+            let up : node + 1 ≡ least (nodeId f network) i = ap (λ (m : ℕ). m + 1) (w .named) ∙ least-next (nodeId f network) row ∙ ap (least (nodeId f network)) (sym (w .behind)) in
+            record {
+              prepared = w .prepared;
+              within = let l = w .there in let b = w .behind in omega arith;
+              nodes = w .nodes;
+              counted = let c = w .counted in let d = w .counts in let b = w .behind in omega arith;
+              left = record { is = rw (w .behind, w .counts) (at-fault none (ap findingOf (sym e) ∙ a)) };
+              j = w .j;
+              next = subst (λ (m : ℕ). Next f network list wire m (w .j)) up (w .next);
+              ahead = λ m. let z = past m in omega (arith, up);
+            }
+
+pub ruleset searching = (search-start, search-room, search-pass, search-row, search-count, search-input, search-wires)
+
+pub ruleset wiring = (wiring-less, wiring-next, wiring-due, wiring-promise, wiring-demand, wiring-end)

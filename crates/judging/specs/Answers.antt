@@ -4,13 +4,13 @@ use mathlib.Core.Option.{Option, none, some}
 use Rattle.routes.specs.Demand.{meets}
 use Rattle.routes.specs.declared.Demand.{Demand}
 use Rattle.routes.specs.declared.Route.{Route}
-use Rattle.networks.specs.Answer.{Answer, given, refused}
+use Rattle.lists.specs.Answer.{Answer, given}
 use Rattle.networks.specs.Judge.{Finding as Found, Verdict as Judged, pass, found}
-use Rattle.records.specs.Numbers.{numbersOf}
 use Rattle.judging.specs.declared.Fault.{Fault}
 use Rattle.judging.specs.declared.Fault.the-variants.{NoFault, FaultDue, FaultPromise, FaultDemand}
 use Rattle.judging.specs.declared.Verdict.{Verdict}
 use Rattle.judging.specs.declared.Verdict.the-variants.{Pass, NotDue, PromiseBroken, DemandUnmet, Refused}
+use Rattle.layout.specs.Refusals.{refusing}
 
 -- 31 with the due route, 32 with the promise, 33 with the listed route; each with the node and the judged count
 abbrev pub answerOf : Verdict → Answer (Judged Route)
@@ -18,7 +18,7 @@ answerOf (Pass count) = given (pass count)
 answerOf (NotDue f) = given (found 31 (f .node) (f .route) (f .count))
 answerOf (PromiseBroken f) = given (found 32 (f .node) (f .route) (f .count))
 answerOf (DemandUnmet f) = given (found 33 (f .node) (f .route) (f .count))
-answerOf (Refused r) = refused (numbersOf r .number) (numbersOf r .place)
+answerOf (Refused r) = refusing r
 
 -- the fault at one box, without the box and the count
 abbrev pub findingOf : Fault → Option (Found Route)

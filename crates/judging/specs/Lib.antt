@@ -3,6 +3,7 @@ pub mod Answers
 pub mod Judging
 pub mod Neighbour
 pub mod Text
-pub mod Offer
-pub mod Ready
-pub mod Walk
+-- What the code stands on and goes by: the records and tables, the boxes and the wires.
+pub mod Prepared
+pub mod OwnBox
+pub mod Wires

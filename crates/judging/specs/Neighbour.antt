@@ -4,39 +4,36 @@ use Prim.Native.Nat.{ℕ, _+_}
 use mathlib.Core.Bool.{cond}
 use mathlib.Core.List.{List, []}
 use lib.ListN.{take, drop}
-use Rattle.networks.specs.Answer.{Answer, given, refused}
+use Rattle.lists.specs.Answer.{Answer, given, refused}
 use Rattle.records.specs.Edge.{boxed}
-use Rattle.records.specs.Entries.{entryOffset, entryOf}
-use Rattle.records.specs.Form.{version1, listLead}
-use Rattle.records.specs.Layout.{nodeOffset}
-use Rattle.records.specs.Node.{rowOf, isOwn}
-use Rattle.records.specs.declared.Form.{Form}
-use Rattle.judging.specs.Judging.{judgeAt, judgeRecords}
+use Rattle.layout.specs.Layout.{entryOffset, nodeOffset}
+use Rattle.entries.specs.Entries.{entryOf}
+use Rattle.layout.specs.Form.{listLead, formOf}
+use Rattle.nodes.specs.Node.{nodeId, rowOf, isOwn}
+use Rattle.layout.specs.declared.Form.{Form}
+use Rattle.judging.specs.Judging.{judgeRecords}
 
 -- the bytes of a record from an offset on, as many as a route of this width has
 unfoldable pub routePart : ℕ → List ℕ → ℕ → List ℕ
 routePart width b o = take width (drop o b)
-
-module _ (f : Form) (network list : List ℕ) (id : ℕ) where
-  -- the list's route for an own node, the assumed one for an input
-  unfoldable pub boxPart : List ℕ
-  boxPart =
-      cond (isOwn f network (rowOf f network id))
-      (routePart (f .route) list (entryOffset f listLead (entryOf f listLead list id) + listLead))
-      (routePart (f .route) network (nodeOffset f network (rowOf f network id) + 3))
-
-  -- empty where no node has the id
-  unfoldable pub namedPart : List ℕ
-  namedPart = cond (boxed f network id) boxPart []
 
 -- empty where a call is refused
 abbrev pub unlessRefused : {A : Type 0} → Answer A → List ℕ → List ℕ
 unlessRefused (given x) part = part
 unlessRefused (refused number place) part = []
 
--- the neighbour's bytes, where neither record is refused by itself
-unfoldable pub neighbourAt : Form → List ℕ → List ℕ → ℕ → List ℕ
-neighbourAt f network list id = unlessRefused (judgeAt f network list) (namedPart f network list id)
+module _ (f : Form) (network list : List ℕ) where
+  -- the route of the node in a row: the list's for an own node, the assumed one for an input
+  unfoldable pub rowPart : ℕ → List ℕ
+  rowPart i =
+      cond (isOwn f network i)
+      (routePart (f .route) list (entryOffset f listLead (entryOf f listLead list (nodeId f network i)) + listLead))
+      (routePart (f .route) network (nodeOffset f network i + 3))
 
+  -- the same by the node's id; empty where no node has it
+  unfoldable pub namedPart : ℕ → List ℕ
+  namedPart id = cond (boxed f network id) (rowPart (rowOf f network id)) []
+
+-- empty where judging would be refused
 unfoldable pub neighbourBytes : List ℕ → List ℕ → ℕ → List ℕ
-neighbourBytes network list id = unlessRefused (judgeRecords network list) (namedPart version1 network list id)
+neighbourBytes network list id = unlessRefused (judgeRecords network list) (namedPart (formOf network) network list id)

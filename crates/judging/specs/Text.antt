@@ -2,9 +2,9 @@
 use Prim.Native.Nat.{ℕ, _+_}
 use mathlib.Core.List.{List}
 use Rattle.routes.specs.declared.Route.{Route}
-use Rattle.networks.specs.Answer.{Answer, given, refused}
+use Rattle.lists.specs.Answer.{Answer, given, refused}
 use Rattle.networks.specs.Judge.{Verdict, pass, found}
-use Rattle.records.specs.Form.{version1, listLead}
+use Rattle.layout.specs.Form.{widest, listLead}
 use Rattle.reading.specs.Largest.{largestNetwork, largestEntries}
 use Rattle.lines.specs.Split.{firstRecord, restOf}
 use Rattle.lines.specs.Line.{passLine, refusedLine, foundLine}
@@ -19,7 +19,7 @@ verdictLine (refused number place) = refusedLine number place
 
 -- the longest input: the largest network and the largest list
 unfoldable pub judgeBound : ℕ
-judgeBound = largestNetwork version1 + largestEntries version1 listLead
+judgeBound = largestNetwork widest + largestEntries widest listLead
 
 -- The first record is the network, and the rest is the list.
 unfoldable pub judgeText : List ℕ → List ℕ

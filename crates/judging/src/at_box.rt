@@ -2,15 +2,24 @@
 ghost use mathlib.Core.Path.{_≡_};
 ghost use Prim.Native.Nat.{_+_, _≤_, _<_};
 ghost use lib.ListN.{length};
-ghost use Rattle.records.specs.Layout.{Room, nodeCount};
+ghost use mathlib.Core.Bool.{true};
+ghost use Rattle.reading.specs.House.{house};
+ghost use Rattle.networks.specs.Judge.{held};
+ghost use Rattle.layout.specs.Layout.{Room, nodeCount};
+ghost use Rattle.nodes.specs.Node.{nodeId, isOwn};
 ghost use Rattle.reading.specs.Parts.{demandAt};
+ghost use Rattle.reading.specs.Whole.{readList};
 ghost use Rattle.judging.specs.Answers.{findingOf, unmetOf};
-ghost use Rattle.judging.specs.Offer.{faultOf};
+ghost use Rattle.routes.specs.Carry.{highest};
+ghost use Rattle.judging.specs.OwnBox.{faultOf};
+ghost use Rattle.judging.specs.Prepared.{Standing};
 use crate::Fault;
-use records::Form;
-use records::demand_at;
-use records::node_offset;
-use records::promising_at;
+use crate::lookup::row_part;
+use layout::Form;
+use layout::ROWS;
+use layout::node_offset;
+use nodes::demand_at;
+use nodes::promising_at;
 use routes::Route;
 use routes::is_met;
 use routes::route_at;
@@ -29,7 +38,7 @@ fn unmet(width: usize, network: &[u8], at: usize, held: Route) -> Fault
 
 // The first fault of the own box in a row, which holds one route and is due another: the due route comes before the
 // promise, and the promise before the demand.
-pub fn fault_at(form: Form, network: &[u8], row: usize, held: Route, due: Route) -> Fault
+fn fault_of(form: Form, network: &[u8], row: usize, held: Route, due: Route) -> Fault
     requires { ⌜ Room form (now network) × (row < nodeCount (now network)) ⌝ }
     ensures { λ r. ⌜ findingOf r ≡ faultOf form (now (network .entry)) row held due ⌝ }
 {
@@ -46,4 +55,20 @@ pub fn fault_at(form: Form, network: &[u8], row: usize, held: Route, due: Route)
         return Fault::FaultPromise(promise);
     }
     unmet(width, network, at, held)
+}
+
+// The first fault of the own box in a row, which is due a route: it holds the one that the list has for it.
+pub fn fault_at<'a>(
+    form: Form,
+    network: &'a [u8],
+    list: &'a [u8],
+    stands: &[usize; ROWS],
+    row: usize,
+    due: Route,
+) -> Fault
+    requires { ⌜ Standing form (now network) (now list) (now stands) × (row < nodeCount (now network)) × (isOwn form (now network) row ≡ true) ⌝ }
+    ensures { λ r. ⌜ findingOf r ≡ faultOf form (now (network .entry)) row (held (house highest) (readList form (now (list .entry))) (nodeId form (now (network .entry)) row)) due ⌝ }
+{
+    let held = route_at(form.route, row_part(form, network, list, stands, row), 0);
+    fault_of(form, network, row, held, due)
 }

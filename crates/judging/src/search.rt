@@ -1,76 +1,56 @@
 // The search for the first fault.
 ghost use mathlib.Core.Path.{_≡_};
-ghost use Prim.Native.Nat.{_≤_, _<_};
-ghost use Rattle.records.specs.Layout.{Room, nodeCount, edgeCount};
+ghost use Prim.Native.Nat.{_<_};
+ghost use Rattle.layout.specs.Layout.{Room, nodeCount};
 ghost use Rattle.judging.specs.Answers.{answerOf};
 ghost use Rattle.judging.specs.Judging.{verdictAt};
-ghost use Rattle.judging.specs.Ready.{Prepared, Ready, Kept};
-ghost use Rattle.judging.specs.Walk.{leadsUpTo, withWire};
+ghost use Rattle.judging.specs.OwnBox.{ownBoxAt};
+ghost use Rattle.judging.specs.Prepared.{Prepared};
 use crate::Fault;
 use crate::Finding;
+use crate::OwnBox;
 use crate::Verdict;
 use crate::at_box::fault_at;
-use crate::senders::held_route;
-use crate::senders::node_route;
-use crate::senders::offer;
+use crate::wires::first_wire;
+use crate::wires::over_wire;
+use crate::wires::wire_behind;
+use layout::Form;
+use layout::NODES_FIELD;
+use layout::ROWS;
+use layout::node_offset;
+use nodes::is_own;
 use numbers::u16_at;
-use records::Form;
-use records::edge_offset;
-use records::is_own;
-use records::node_id;
-use records::wide16;
-use routes::Route;
-use routes::better;
+use numbers::wide16;
+use routes::route_at;
 
-// Whether there is a j-th wire that leads to a box with an id up to node.
-fn leads_up_to(form: Form, network: &[u8], j: usize, node: u16) -> bool
-    requires { ⌜ Room form (now network) × (edgeCount (now network) ≤ 4096) ⌝ }
-    ensures { λ r. ⌜ r ≡ leadsUpTo form (now (network .entry)) j node ⌝ }
+// The own box in a row.
+fn own_box(form: Form, network: &[u8], row: usize) -> OwnBox
+    requires { ⌜ Room form (now network) × (row < nodeCount (now network)) ⌝ }
+    ensures { λ r. ⌜ r ≡ ownBoxAt form (now (network .entry)) row ⌝ }
 {
-    if wide16(u16_at(network, 7)) <= j {
-        return false;
+    let at = node_offset(form, network, row);
+    OwnBox {
+        node: u16_at(network, at),
+        initial: route_at(form.route, network, at + 3),
     }
-    u16_at(network, edge_offset(form, network, j)) <= node
 }
 
-// The better of a route and what the j-th wire gives, where the wire leads to node; else the route.
-fn with_wire(
+// The first fault by rising id, or a pass. Wires stand by their to end, which is an own box, so that those into a box are the
+// next ones: where the next wire leads elsewhere the box is due what it has, and is judged.
+pub fn search<'a>(
     form: Form,
-    network: &[u8],
-    list: &[u8],
+    network: &'a [u8],
+    list: &'a [u8],
     rows: &[u16; 65536],
-    there: &[u8; 1024],
-    fields: &[u64; 1024],
-    j: usize,
-    node: u16,
-    due: Route,
-) -> Route
-    requires { ⌜ Ready form (now network) (now list) (now rows) × Kept form (now network) (now list) (now there) (now fields) (nodeCount (now network)) ⌝ }
-    requires { ⌜ j < edgeCount (now network) ⌝ }
-    ensures { λ r. ⌜ r ≡ withWire form (now (network .entry)) (now (list .entry)) j node due ⌝ }
-{
-    if u16_at(network, edge_offset(form, network, j)) != node {
-        return due;
-    }
-    better(due, offer(form, network, list, rows, there, fields, j))
-}
-
-// The first fault by rising id, or a pass. Wires stand by their to end, so that each is looked at once.
-pub fn search(
-    form: Form,
-    network: &[u8],
-    list: &[u8],
-    rows: &[u16; 65536],
-    there: &[u8; 1024],
-    fields: &[u64; 1024],
+    stands: &[usize; ROWS],
 ) -> Verdict
-    requires { ⌜ Prepared form (now network) (now list) (now rows) (now there) (now fields) ⌝ }
+    requires { ⌜ Prepared form (now network) (now list) (now rows) (now stands) ⌝ }
     ensures { λ r. ⌜ answerOf r ≡ verdictAt form (now (network .entry)) (now (list .entry)) ⌝ }
 {
-    let n = wide16(u16_at(network, 5));
+    let n = wide16(u16_at(network, NODES_FIELD));
     let mut i = 0;
-    let mut j = 0;
     let mut count: usize = 0;
+    let mut wire = first_wire(form, network);
     let verdict = 'nodes: loop {
         if n <= i {
             break 'nodes Verdict::Pass(count);
@@ -81,24 +61,26 @@ pub fn search(
             continue 'nodes;
         }
         count += 1;
-        let node = node_id(form, network, row);
-        let mut due = node_route(form, network, row);
-        while leads_up_to(form, network, j, node) {
-            due = with_wire(form, network, list, rows, there, fields, j, node, due);
-            j += 1;
-        }
-        let held = held_route(form, network, list, there, fields, row);
-        match fault_at(form, network, row, held, due) {
-            Fault::NoFault => {}
-            Fault::FaultDue(route) => {
-                break 'nodes Verdict::NotDue(Finding { node, count, route });
+        let own = own_box(form, network, row);
+        let node = own.node;
+        let mut due = own.initial;
+        loop {
+            if wire.to != wide16(node) {
+                match fault_at(form, network, list, stands, row, due) {
+                    Fault::NoFault => continue 'nodes,
+                    Fault::FaultDue(route) => {
+                        break 'nodes Verdict::NotDue(Finding { node, count, route });
+                    }
+                    Fault::FaultPromise(route) => {
+                        break 'nodes Verdict::PromiseBroken(Finding { node, count, route });
+                    }
+                    Fault::FaultDemand(route) => {
+                        break 'nodes Verdict::DemandUnmet(Finding { node, count, route });
+                    }
+                }
             }
-            Fault::FaultPromise(route) => {
-                break 'nodes Verdict::PromiseBroken(Finding { node, count, route });
-            }
-            Fault::FaultDemand(route) => {
-                break 'nodes Verdict::DemandUnmet(Finding { node, count, route });
-            }
+            due = over_wire(form, network, list, rows, stands, wire, due);
+            wire = wire_behind(form, network, wire);
         }
     };
     verdict

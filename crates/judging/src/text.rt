@@ -2,45 +2,65 @@
 ghost use mathlib.Core.Path.{_≡_};
 ghost use lib.ListN.{length};
 ghost use Rattle.lists.specs.Laid.{placed};
-ghost use Rattle.lines.specs.Line.{foundLine};
+ghost use Rattle.lines.specs.Line.{foundLine, lineBytes};
 ghost use Rattle.judging.specs.Answers.{answerOf};
-ghost use Rattle.judging.specs.Text.{verdictLine, judgeText};
+ghost use Rattle.judging.specs.Text.{verdictLine, judgeBound, judgeText};
 use crate::Finding;
 use crate::Verdict;
 use crate::entry::judge;
+use layout::LARGEST_LIST;
+use layout::LARGEST_NETWORK;
+use layout::number_of;
+use lines::Line;
 use lines::first_length;
-use lines::put_found;
-use lines::put_pass;
-use lines::put_refused;
-use records::number_of;
-use records::place_of;
-use records::wide;
-use records::wide16;
+use lines::place_line;
+use numbers::wide;
+use numbers::wide16;
 
-// The longest input: the largest network, 35,146 bytes, and the largest route list, 5,639.
-pub const LONGEST: usize = 40785;
+// The longest input: the largest network and the largest route list.
+pub const LONGEST: usize = LARGEST_NETWORK + LARGEST_LIST;
 
-// Places the line of a finding with this number at the start of out where it fits, and answers its length.
-fn put_finding(number: usize, finding: Finding, out: &mut [u8]) -> usize
-    ensures count { λ r. ⌜ r ≡ length (foundLine number (finding .node) (finding .count) (finding .route)) ⌝ }
-    ensures text { λ _. ⌜ now (out .exit) ≡ placed (foundLine number (finding .node) (finding .count) (finding .route)) (now (out .entry)) ⌝ }
+// The same, held to its definition.
+pub fn longest_input() -> usize
+    ensures { λ r. ⌜ r ≡ judgeBound ⌝ }
 {
-    let route = finding.route;
-    put_found(number, wide16(finding.node), finding.count, route, out)
+    LONGEST
 }
 
-// Places the line of a verdict at the start of out where it fits, and answers its length.
-fn put_verdict(verdict: Verdict, out: &mut [u8]) -> usize
-    ensures count { λ r. ⌜ r ≡ length (verdictLine (answerOf verdict)) ⌝ }
-    ensures text { λ _. ⌜ now (out .exit) ≡ placed (verdictLine (answerOf verdict)) (now (out .entry)) ⌝ }
+// The line of a finding with this number.
+fn finding_line(number: usize, finding: Finding) -> Line
+    ensures { λ r. ⌜ lineBytes r ≡ foundLine number (finding .node) (finding .count) (finding .route) ⌝ }
+{
+    let route = finding.route;
+    Line::Found(number, wide16(finding.node), finding.count, route)
+}
+
+// The line of a verdict.
+fn verdict_line(verdict: Verdict) -> Line
+    ensures { λ r. ⌜ lineBytes r ≡ verdictLine (answerOf verdict) ⌝ }
 {
     match verdict {
-        Verdict::Pass(count) => put_pass(count, out),
-        Verdict::NotDue(finding) => put_finding(31, finding, out),
-        Verdict::PromiseBroken(finding) => put_finding(32, finding, out),
-        Verdict::DemandUnmet(finding) => put_finding(33, finding, out),
-        Verdict::Refused(refusal) => put_refused(wide(number_of(refusal)), place_of(refusal), out),
+        Verdict::Pass(count) => Line::Pass(count),
+        Verdict::NotDue(finding) => finding_line(31, finding),
+        Verdict::PromiseBroken(finding) => finding_line(32, finding),
+        Verdict::DemandUnmet(finding) => finding_line(33, finding),
+        Verdict::Refused(refusal) => {
+            let class = refusal.class;
+            Line::Refused(wide(number_of(class)), refusal.place)
+        },
     }
+}
+
+// The line of an input.
+fn input_line(input: &[u8]) -> Line
+    ensures { λ r. ⌜ lineBytes r ≡ judgeText (now (input .entry)) ⌝ }
+{
+    let longest = longest_input();
+    if longest < input.len() {
+        return Line::Refused(5, longest);
+    }
+    let first = first_length(input);
+    verdict_line(judge(&input[0..first], &input[first..]))
 }
 
 // The line that the judging program prints when it reads these bytes: its length, and the line itself at the start of out
@@ -49,9 +69,5 @@ pub fn judge_bytes(input: &[u8], out: &mut [u8]) -> usize
     ensures count { λ r. ⌜ r ≡ length (judgeText (now (input .entry))) ⌝ }
     ensures text { λ _. ⌜ now (out .exit) ≡ placed (judgeText (now (input .entry))) (now (out .entry)) ⌝ }
 {
-    if LONGEST < input.len() {
-        return put_refused(5, LONGEST, out);
-    }
-    let first = first_length(input);
-    put_verdict(judge(&input[0..first], &input[first..]), out)
+    place_line(input_line(input), out)
 }

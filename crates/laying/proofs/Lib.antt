@@ -1,6 +1,3 @@
--- What the writers lay down, row by row, part by part and whole.
-pub mod StoreLaws
-pub mod RowBytes
-pub mod PutLaws
-pub mod LayLaws
+-- Which rows are laid, and the record that they make.
+pub mod RowLaws
 pub mod RecordLaws

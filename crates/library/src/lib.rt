@@ -1,4 +1,4 @@
-// What programs in other languages link: the check, the judge and the cutter, from bytes to bytes.
+// What programs in other languages link: the check, the judge and the cutter, from bytes to bytes, and the rooms that these take.
 //
 // The archive that `rt staticlib library` writes has the functions below under their own names, by C's calling convention;
 // a slice is handed over as a pointer and a length (c/lnianotka.h). No function has a `requires`: a caller in
@@ -6,22 +6,62 @@
 ghost use mathlib.Core.Path.{_≡_};
 ghost use lib.ListN.{length};
 ghost use Rattle.lists.specs.Laid.{placed};
+ghost use Rattle.layout.specs.Form.{widest};
+ghost use Rattle.layout.specs.Refusals.{numberIn};
 ghost use Rattle.records.specs.Network.{networkRefusal};
-ghost use Rattle.judging.specs.Text.{judgeText};
-ghost use Rattle.cutting.specs.Text.{cutText};
-use records::Check;
+ghost use Rattle.judging.specs.Text.{judgeText, judgeBound};
+ghost use Rattle.cutting.specs.Text.{cutText, cutBound};
+use layout::Check;
+use layout::number_of;
+ghost use Rattle.reading.specs.Largest.{largestNetwork};
+ghost use Rattle.lines.specs.Line.{longestLine};
+use lines::LONGEST_LINE;
 use records::check_network;
-use records::number_of;
 
 // The number of the first refusal that applies to a network record, or 0 where the network is sound.
 #[no_mangle]
 pub extern "C" fn lnianotka_check(network: &[u8]) -> u8
-    ensures { λ r. ⌜ r ≡ networkRefusal (now (network .entry)) .number ⌝ }
+    ensures { λ r. ⌜ r ≡ numberIn (networkRefusal (now (network .entry))) ⌝ }
 {
     match check_network(network) {
-        Check::Fine => 0,
-        Check::Refused(refusal) => number_of(refusal),
+        Check::Fine(_) => 0,
+        Check::Refused(refusal) => {
+            let class = refusal.class;
+            number_of(class)
+        }
     }
+}
+
+// The longest input that is judged; a longer one is refused.
+#[no_mangle]
+pub extern "C" fn lnianotka_judge_input() -> usize
+    ensures { λ r. ⌜ r ≡ judgeBound ⌝ }
+{
+    judging::longest_input()
+}
+
+// Room enough for every line of the judge.
+#[no_mangle]
+pub extern "C" fn lnianotka_judge_answer() -> usize
+    ensures { λ r. ⌜ r ≡ longestLine ⌝ }
+{
+    LONGEST_LINE
+}
+
+// The longest input that is cut; a longer one is refused.
+#[no_mangle]
+pub extern "C" fn lnianotka_cut_input() -> usize
+    ensures { λ r. ⌜ r ≡ cutBound ⌝ }
+{
+    cutting::longest_input()
+}
+
+// Room enough for every output of the cutter.
+#[no_mangle]
+pub extern "C" fn lnianotka_cut_answer() -> usize
+    ensures { λ r. ⌜ r ≡ largestNetwork widest ⌝ }
+{
+    cutting::largest_output()
 }
 
 // The line that the judging program prints when it reads these bytes: its length, and the line itself at the start of out

@@ -14,7 +14,7 @@ use lib.ListN.{length, take, drop}
 use lib.Seq.{take-append-seam}
 use borrow.Author.Tests.{lt-ltb, le-ltb, le-leb}
 use Rattle.lists.specs.Laid.{over, placed}
-use Rattle.lines.specs.Line.{refusedLine}
+use Rattle.lines.specs.Line.{refusedLine, longestLine}
 use Rattle.lines.specs.Bound.{withinBound}
 use Rattle.lines.proofs.Lengths.{refused-length}
 
@@ -27,7 +27,7 @@ module _ (bound : ℕ) (input answer : List ℕ) where
   unfolding withinBound
   bound-kept h = rw (le-ltb bound (length input) h)
 
-  pub bound-short : (most : ℕ) → 50 ≤ most → length answer ≤ most → length (withinBound bound input answer) ≤ most
+  pub bound-short : (most : ℕ) → longestLine ≤ most → length answer ≤ most → length (withinBound bound input answer) ≤ most
   unfolding withinBound
   bound-short most room h = go (ltb bound (length input))
     where

@@ -7,7 +7,7 @@ use Rattle.numbers.specs.BigEndian.{u16At, u32At}
 use Rattle.numbers.specs.Decimal.{decimal, places}
 use Rattle.routes.specs.declared.Route.the-variants.{None, Held}
 use Rattle.lines.specs.Split.{firstLength, firstRecord, restOf}
-use Rattle.lines.specs.Line.{text, line, routeWords, passLine, refusedLine, foundLine}
+use Rattle.lines.specs.Line.{text, spaced, line, routeWords, passLine, refusedLine, foundLine}
 
 pub record Example : Type 0 where
   pub answer : List ℕ
@@ -36,5 +36,5 @@ examples =
 
 -- every answer is the expected one
 pub examples-hold : map (λ (x : Example). x .answer) examples ≡ map (λ (x : Example). x .expected) examples
-unfolding passLine refusedLine foundLine line routeWords decimal places firstBad firstLength u32At u16At
+unfolding passLine refusedLine foundLine line spaced routeWords decimal places firstBad firstLength u32At u16At
 examples-hold = refl

@@ -1,4 +1,4 @@
--- How long each line is at most, whatever its numbers: a word of at most seven bytes, at most 21 for a number behind its space, a line feed.
+-- No line is longer than the longest: at most 21 bytes for each word behind its space.
 use Prim.Native.Nat.{ℕ, _+_, _*_, _≤_}
 use mathlib.Core.List.{List, [], _∷_, _++_}
 use native.Mathlib.Omega.{arith}
@@ -7,7 +7,7 @@ use Rattle.numbers.specs.Decimal.{decimal}
 use Rattle.numbers.proofs.DecimalLaws.{decimal-short}
 use Rattle.routes.specs.declared.Route.{Route}
 use Rattle.routes.specs.declared.Route.the-variants.{None, Held}
-use Rattle.lines.specs.Line.{text, spaced, line, routeWords, passLine, refusedLine, foundLine}
+use Rattle.lines.specs.Line.{text, spaced, line, routeWords, passLine, refusedLine, foundLine, longestLine}
 
 -- every word is no longer than 20 bytes
 abbrev Short : List (List ℕ) → Type 0
@@ -15,6 +15,7 @@ Short [] = Unit {0}
 Short (w ∷ ws) = (length w ≤ 20) × Short ws
 
 spaced-short : (ws : List (List ℕ)) → Short ws → length (spaced ws) ≤ 21 * length ws
+unfolding spaced
 spaced-short [] s = omega arith
 spaced-short (w ∷ ws) s = let h = spaced-short ws (s .1) in omega (arith, length-append w (spaced ws), s .0)
 
@@ -22,28 +23,25 @@ line-short : (first : List ℕ) (ws : List (List ℕ)) → Short ws → length (
 unfolding line
 line-short first ws s = let h = spaced-short ws s in omega (arith, length-append first (spaced ws ++ text "\n"), length-append (spaced ws) (text "\n"))
 
-pub pass-length : (judged : ℕ) → length (passLine judged) ≤ 26
+route-short : (route : Route) → Short (routeWords route) × (length (routeWords route) ≤ 4)
+unfolding routeWords
+route-short None = ((omega arith, tt), omega arith)
+route-short (Held f) = ((decimal-short (f .preference), (decimal-short (f .cost), (decimal-short (f .origin), (decimal-short (f .tags), tt)))), omega arith)
+
+pub pass-length : (judged : ℕ) → length (passLine judged) ≤ longestLine
 unfolding passLine
-pass-length judged = line-short (text "pass") (decimal judged ∷ []) (decimal-short judged, tt)
+pass-length judged = let h = line-short (text "pass") (decimal judged ∷ []) (decimal-short judged, tt) in omega arith
 
-pub refused-length : (number place : ℕ) → length (refusedLine number place) ≤ 50
+pub refused-length : (number place : ℕ) → length (refusedLine number place) ≤ longestLine
 unfolding refusedLine
-refused-length number place = line-short (text "refused") (decimal number ∷ decimal place ∷ []) (decimal-short number, (decimal-short place, tt))
+refused-length number place =
+    let h = line-short (text "refused") (decimal number ∷ decimal place ∷ []) (decimal-short number, (decimal-short place, tt)) in omega arith
 
-pub found-length : (number node judged : ℕ) (route : Route) → length (foundLine number node judged route) ≤ 153
-unfolding foundLine routeWords
-found-length number node judged None =
-    let h = line-short (text "found") (decimal number ∷ decimal node ∷ decimal judged ∷ text "none" ∷ [])
-    (decimal-short number, (decimal-short node, (decimal-short judged, (omega arith, tt)))) in
+pub found-length : (number node judged : ℕ) (route : Route) → length (foundLine number node judged route) ≤ longestLine
+unfolding foundLine
+found-length number node judged route =
+    let r = route-short route in
+    let h = line-short (text "found") (decimal number ∷ decimal node ∷ decimal judged ∷ routeWords route)
+    (decimal-short number, (decimal-short node, (decimal-short judged, r .0))) in
+    let few = r .1 in
     omega arith
-found-length number node judged (Held f) =
-    line-short (text "found") (decimal number ∷ decimal node ∷ decimal judged ∷ decimal (f .preference) ∷ decimal (f .cost) ∷ decimal (f .origin) ∷ decimal (f .tags) ∷ []) (
-      decimal-short number,
-      (
-        decimal-short node,
-        (
-          decimal-short judged,
-          (decimal-short (f .preference), (decimal-short (f .cost), (decimal-short (f .origin), (decimal-short (f .tags), tt)))),
-        ),
-      ),
-    )

@@ -1,24 +1,14 @@
--- What the split of an input gives: never more than the input, and of a record with bytes behind it that record. A rest as it is lent.
+-- The split of a record with bytes behind it gives that record and those bytes. A rest as it is lent.
 use mathlib.Core.Path.{_≡_, ap, _∙_}
-use mathlib.Core.Bool.{Bool, true, false, cond}
 use mathlib.Core.List.{List, _++_}
-use Prim.Native.Nat.{ℕ, _+_, _-_, _≤_, _<_, min}
-use native.Mathlib.Nat.{min-le-right, min-eq-left}
+use Prim.Native.Nat.{ℕ, _+_, _-_, _≤_, _<_}
+use native.Mathlib.Nat.{min-eq-left}
 use native.Mathlib.Omega.{arith}
-use lib.Dec.{ltb}
 use lib.ListN.{length, getD, take, drop, length-append, length-drop, List·getD-append}
 use lib.Seq.{take-all, take-append-seam, drop-append-seam}
 use borrow.Author.Tests.{le-ltb}
 use Rattle.numbers.specs.BigEndian.{u16At, u32At}
 use Rattle.lines.specs.Split.{firstLength, firstRecord, restOf}
-
-pub first-within : (input : List ℕ) → firstLength input ≤ length input
-unfolding firstLength
-first-within input = go (ltb (length input) 4)
-  where
-    go : (t : Bool) → cond t (length input) (min (u32At input 0 + 4) (length input)) ≤ length input
-    go true = omega arith
-    go false = min-le-right (u32At input 0 + 4) (length input)
 
 -- what is lent from an offset on
 pub rest-lent : (input : List ℕ) (at : ℕ) → take (length input - at) (drop at input) ≡ drop at input

@@ -1,11 +1,14 @@
 -- The lines that the programs print (document 01, 'The two programs'): words separated by one space, ended by a line feed.
-use Prim.Native.Nat.{ℕ}
+use Prim.Native.Nat.{ℕ, _+_, _*_}
 use Prim.Native.Char.{code}
 use Prim.Native.String.{String, [] as no-more, _∷_ as _then_}
 use mathlib.Core.List.{List, [], _∷_, _++_}
+use lib.ListN.{length}
 use Rattle.numbers.specs.Decimal.{decimal}
 use Rattle.routes.specs.declared.Route.{Route}
 use Rattle.routes.specs.declared.Route.the-variants.{None, Held}
+use Rattle.lines.specs.declared.Line.{Line}
+use Rattle.lines.specs.declared.Line.the-variants.{Pass, Refused, Found}
 
 -- a text's characters by their numbers, which are its bytes as every character here is ASCII
 abbrev pub text : String → List ℕ
@@ -13,7 +16,7 @@ text no-more = []
 text (c then s) = code c ∷ text s
 
 -- words, each behind a space
-abbrev pub spaced : List (List ℕ) → List ℕ
+unfoldable pub spaced : List (List ℕ) → List ℕ
 spaced [] = []
 spaced (w ∷ ws) = text " " ++ (w ++ spaced ws)
 
@@ -37,3 +40,13 @@ refusedLine number place = line (text "refused") (decimal number ∷ decimal pla
 -- `found NUMBER NODE JUDGED` and the route
 unfoldable pub foundLine : ℕ → ℕ → ℕ → Route → List ℕ
 foundLine number node judged route = line (text "found") (decimal number ∷ decimal node ∷ decimal judged ∷ routeWords route)
+
+-- a line, by its kind
+unfoldable pub lineBytes : Line → List ℕ
+lineBytes (Pass judged) = passLine judged
+lineBytes (Refused number place) = refusedLine number place
+lineBytes (Found number node judged route) = foundLine number node judged route
+
+-- The longest line is a finding's with a route: its first word, seven numbers of at most 20 digits behind a space each, a line feed.
+abbrev pub longestLine : ℕ
+longestLine = length (text "found") + 7 * 21 + 1

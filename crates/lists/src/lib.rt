@@ -1,1 +1,1 @@
-// Definitions and laws that every other crate shares. They are in specs/; there is no code.
+// Definitions and laws that every other crate shares. They are in specs/ and proofs/; there is no code.

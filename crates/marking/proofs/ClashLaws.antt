@@ -15,18 +15,21 @@ use Rattle.routes.specs.Form.{routeAt}
 use Rattle.routes.specs.Order.{same}
 use Rattle.routes.specs.declared.Route.{Route}
 use Rattle.networks.specs.Cut.{leaves, offNote, clashes}
-use Rattle.networks.specs.House.{house}
+use Rattle.reading.specs.House.{house}
 use Rattle.networks.specs.Sheets.{note}
-use Rattle.records.specs.Layout.{nodeCount, nodeOffset}
-use Rattle.records.specs.Node.{nodeId, isOwn, promising}
-use Rattle.records.specs.declared.Form.{Form}
+use Rattle.layout.specs.Layout.{nodeCount, nodeOffset}
+use Rattle.nodes.specs.Node.{nodeId, isOwn, promising}
+use Rattle.layout.specs.declared.Form.{Form}
 use Rattle.reading.specs.Parts.{promiseAt}
 use Rattle.reading.specs.Whole.{readNetwork, readSheet}
 use Rattle.marking.specs.Marks.{Leaving}
-use Rattle.marking.specs.Parts.{noteOffset, noteIn}
-use Rattle.marking.specs.Tables.{unclashed, Noted}
+use Rattle.marking.specs.Pieces.{noteOffset, noteIn}
+use Rattle.records.specs.Entered.{EntryRows}
+use Rattle.marking.specs.Tables.{unclashed}
 use Rattle.marking.proofs.Said.{ownIn, meets-own, meets-input}
+use Rattle.routes.specs.Carry.{highest}
 use Rattle.marking.proofs.RowLaws.{index-small, node-there, promise-there, noted}
+use Rattle.layout.specs.Form.{sheetLead}
 
 -- a mark by its test, and back
 pub mark-zero : (v : ℕ) (t : Bool) → v ≡ cond t 1 0 → v ≡ 0 → t ≡ false
@@ -58,16 +61,16 @@ module _ (f : Form) (network sheet : List ℕ) (i : ℕ) (l : i < nodeCount netw
 
     pub input-unclashed : true ≡ unclashed f network sheet i
     unfolding unclashed
-    input-unclashed = rw (meets-input f network i foreign (clashes (house 65535) (readNetwork f network) (readSheet f sheet)))
+    input-unclashed = rw (meets-input f network i foreign (clashes (house highest) (readNetwork f network) (readSheet f sheet)))
 
   -- an own node
   module _ (own? : Bool) (e : own? ≡ isOwn f network i) (y : not own? ≡ false) where
     pub ours : isOwn f network i ≡ true
     ours = sym e ∙ not-false own? y
 
-    clash-own : unclashed f network sheet i ≡ not (leaves (readNetwork f network) (readSheet f sheet) (nodeId f network i) && offNote (house 65535) (ownIn f network i .promise) (note (readSheet f sheet) (nodeId f network i)))
+    clash-own : unclashed f network sheet i ≡ not (leaves (readNetwork f network) (readSheet f sheet) (nodeId f network i) && offNote (house highest) (ownIn f network i .promise) (note (readSheet f sheet) (nodeId f network i)))
     unfolding unclashed
-    clash-own = ap not (meets-own f network i ours (clashes (house 65535) (readNetwork f network) (readSheet f sheet)))
+    clash-own = ap not (meets-own f network i ours (clashes (house highest) (readNetwork f network) (readSheet f sheet)))
 
     module _ (marks : List ℕ) (m : Leaving f network sheet marks) where
       left? : getD marks i 0 ≡ cond (leaves (readNetwork f network) (readSheet f sheet) (nodeId f network i)) 1 0
@@ -88,14 +91,14 @@ module _ (f : Form) (network sheet : List ℕ) (i : ℕ) (l : i < nodeCount netw
         silent-unclashed s =
             sym (clash-own ∙ rw (goes d, promise-none (f .route) network (nodeOffset f network i) p (r ∙ ap (promising (f .route) network) q) (not-true p s)))
 
-        pub same-unclashed : (entries : List ℕ) (x n : Route) (t : Bool) (o : ℕ) → Noted f network sheet (nodeCount network) entries → not p ≡ false
-            → o ≡ noteOffset f entries i → x ≡ routeAt (f .route) network (at + 4 + f .route) → n ≡ routeAt (f .route) sheet o → t ≡ same x n → t ≡ unclashed f network sheet i
+        pub same-unclashed : (found : List ℕ) (x n : Route) (t : Bool) (o : ℕ) → EntryRows f sheetLead network sheet found → not p ≡ false
+            → o ≡ noteOffset f found i → x ≡ routeAt (f .route) network (at + 4 + f .route) → n ≡ routeAt (f .route) sheet o → t ≡ same x n → t ≡ unclashed f network sheet i
         unfolding noteIn
-        same-unclashed entries x n t o g s h a b z =
+        same-unclashed found x n t o g s h a b z =
             sym (clash-own ∙ rw (
               goes d,
               promise-some (f .route) network (nodeOffset f network i) p (r ∙ ap (promising (f .route) network) q) (not-false p s),
-              noted f network sheet entries i l ours g,
+              noted f network sheet found i l ours g,
               ← q,
               ← a,
               ← h,

@@ -1,8 +1,8 @@
 -- What the tables, the marks and the parts of rows say, as the code fills them.
 pub mod Said
-pub mod TableLaws
+pub mod FragmentLaws
 pub mod MarkLaws
 pub mod MarkSaid
 pub mod RowLaws
 pub mod ClashLaws
-pub mod PartLaws
+pub mod PieceLaws

@@ -16,15 +16,15 @@ use Rattle.lists.specs.Stride.{at}
 use Rattle.networks.specs.Cut.{leaves, feeds, only, promised, piece}
 use Rattle.networks.specs.Network.{own, input}
 use Rattle.networks.specs.Sheets.{number, note}
-use Rattle.records.specs.Entries.{entryCount, entryOffset}
-use Rattle.records.specs.Form.{sheetLead, nodeWidth}
-use Rattle.records.specs.Layout.{nodeCount, nodeOffset}
-use Rattle.records.specs.Node.{nodeId, isOwn}
-use Rattle.records.specs.Offsets.{entry-room, node-room}
-use Rattle.records.specs.declared.Form.{Form}
+use Rattle.layout.specs.Layout.{entryCount, entryOffset, nodeCount, nodeOffset}
+use Rattle.layout.specs.Form.{sheetLead, nodeWidth}
+use Rattle.nodes.specs.Node.{nodeId, isOwn}
+use Rattle.layout.proofs.Places.{entry-room, node-room}
+use Rattle.layout.specs.declared.Form.{Form}
 use Rattle.reading.specs.Whole.{HouseNetwork, HouseSheet, readNetwork, readSheet}
-use Rattle.marking.specs.Parts.{noteOffset, noteIn, pieceIn}
-use Rattle.marking.specs.Tables.{CheckedNetwork, CheckedSheet, Noted}
+use Rattle.marking.specs.Pieces.{noteOffset, noteIn, pieceIn}
+use Rattle.records.specs.Checked.{CheckedNetwork, CheckedEntries}
+use Rattle.records.specs.Entered.{EntryRows}
 use Rattle.marking.proofs.Said.{ownIn, own-box, note-there}
 
 module _ (f : Form) (network : List ℕ) (c : CheckedNetwork f network) (i : ℕ) (l : i < nodeCount network) where
@@ -38,25 +38,25 @@ module _ (f : Form) (network : List ℕ) (c : CheckedNetwork f network) (i : ℕ
   pub promise-there : (at : ℕ) → at ≡ nodeOffset f network i → at + 4 + f .route + f .route ≤ length network
   promise-there at e = let h = node-there at e in omega arith
 
-module _ (f : Form) (network sheet entries : List ℕ) (i : ℕ) (l : i < nodeCount network) (ours : isOwn f network i ≡ true)
-    (n : Noted f network sheet (nodeCount network) entries) where
-  entry-there : getD entries i 0 < entryCount sheet
+module _ (f : Form) (network sheet found : List ℕ) (i : ℕ) (l : i < nodeCount network) (ours : isOwn f network i ≡ true)
+    (n : EntryRows f sheetLead network sheet found) where
+  entry-there : getD found i 0 < entryCount sheet
   entry-there = n .row i l ours .there
 
   -- where the note stands
-  module _ (entry : ℕ) (e : entry ≡ getD entries i 0) where
+  module _ (entry : ℕ) (e : entry ≡ getD found i 0) where
     pub note-entry : Fits w16 entry → entry ≤ 65535
     note-entry g = omega arith
 
     module _ (at : ℕ) (q : at ≡ entryOffset f sheetLead entry) where
-      pub note-offset : at + 3 ≡ noteOffset f entries i
+      pub note-offset : at + 3 ≡ noteOffset f found i
       unfolding noteOffset
       note-offset = rw (q, e)
 
-      pub note-room : CheckedSheet f sheet → at + 3 + f .route ≤ length sheet
+      pub note-room : CheckedEntries f sheetLead sheet → at + 3 + f .route ≤ length sheet
       note-room s = let h = entry-room f sheetLead sheet (s .room) entry (rw e entry-there) in omega arith
 
-      pub note-sum : CheckedSheet f sheet → length sheet < 2 ^ 64 → Fits w64 (at + 3)
+      pub note-sum : CheckedEntries f sheetLead sheet → length sheet < 2 ^ 64 → Fits w64 (at + 3)
       note-sum s g = let h = note-room s in omega arith
 
   abbrev N : HouseNetwork
@@ -66,7 +66,7 @@ module _ (f : Form) (network sheet entries : List ℕ) (i : ℕ) (l : i < nodeCo
   S = readSheet f sheet
 
   -- the note that the sheet has for the box
-  pub noted : note S (nodeId f network i) ≡ some (noteIn f sheet entries i)
+  pub noted : note S (nodeId f network i) ≡ some (noteIn f sheet found i)
   unfolding noteIn noteOffset
   noted =
       let e = n .row i l ours .is in
@@ -85,7 +85,7 @@ module _ (f : Form) (network sheet entries : List ℕ) (i : ℕ) (l : i < nodeCo
 
   -- and in another one
   pub other-piece : (k : ℕ) → (number S (nodeId f network i) ≡ k → ⊥) → pieceIn f network sheet k i
-      ≡ cond (feeds N S (only k) (nodeId f network i)) (some (input (record { id = nodeId f network i; assumed = noteIn f sheet entries i }))) none
+      ≡ cond (feeds N S (only k) (nodeId f network i)) (some (input (record { id = nodeId f network i; assumed = noteIn f sheet found i }))) none
   unfolding pieceIn
   other-piece k d = ap (piece N S (only k)) (own-box f network i ours) ∙ rw (ne-eqb (number S (nodeId f network i)) k d, noted)
 

@@ -9,19 +9,19 @@ use mathlib.Core.Path.{_≡_, ap, _∙_}
 use lib.ListN.{getD}
 use borrow.Author.Tests.{lt-ltb, le-ltb}
 use Rattle.lists.specs.Filter.{holds}
-use Rattle.lists.specs.First.{first-le}
+use Rattle.lists.proofs.First.{first-le}
 use Rattle.lists.specs.Rising.{place}
-use Rattle.lists.specs.Table.{rowAt, find-rows}
+use Rattle.lists.proofs.Table.{rowAt, find-rows}
 use Rattle.routes.specs.Form.{routeAt}
 use Rattle.routes.specs.declared.Demand.{Demand}
 use Rattle.routes.specs.declared.Route.{Route}
 use Rattle.networks.specs.Network.{Own, Box, own, input, asOwn}
 use Rattle.networks.specs.Sheets.{SheetEntry, sheetEntry, number, note}
-use Rattle.records.specs.Entries.{entryCount, entryOffset, entryId, entryOf}
-use Rattle.records.specs.Form.{entryWidth, sheetLead}
-use Rattle.records.specs.Layout.{nodeOffset}
-use Rattle.records.specs.Node.{nodeId, isOwn}
-use Rattle.records.specs.declared.Form.{Form}
+use Rattle.layout.specs.Layout.{entryCount, entryOffset, nodeOffset}
+use Rattle.entries.specs.Entries.{entryId, entryOf}
+use Rattle.layout.specs.Form.{entryWidth, sheetLead}
+use Rattle.nodes.specs.Node.{nodeId, isOwn}
+use Rattle.layout.specs.declared.Form.{Form}
 use Rattle.reading.specs.Parts.{boxAt, promiseAt, demandAt, sheetEntryAt}
 use Rattle.reading.specs.Whole.{HouseSheet, readSheet}
 use Rattle.marking.specs.Tables.{boxIn, ownMeets}

@@ -5,7 +5,7 @@ use Rattle.networks.specs.Algebra.{Algebra}
 use Rattle.networks.specs.Network.{NetworkOver}
 use Rattle.networks.specs.Sound.{Bounds, Sound, NoMore}
 use Rattle.networks.specs.Sheets.{Sheet}
-use Rattle.networks.specs.Answer.{given}
+use Rattle.lists.specs.Answer.{given}
 use Rattle.networks.specs.Cut.{only, cut}
 use Rattle.networks.proofs.Laws.Cutting.{cut-given}
 use Rattle.networks.proofs.Laws.Soundness.{fragment-less, fragment-sound}

@@ -9,7 +9,8 @@ use Rattle.networks.specs.Algebra.{Algebra}
 use Rattle.networks.specs.Network.{NetworkOver}
 use Rattle.networks.specs.Sound.{Bounds, Sound}
 use Rattle.networks.specs.Sheets.{Sheet, RouteList, listed}
-use Rattle.networks.specs.Answer.{given, Entered}
+use Rattle.lists.specs.Answer.{given}
+use Rattle.networks.specs.Lowest.{Entered}
 use Rattle.networks.specs.Solution.{Solution}
 use Rattle.networks.specs.Judge.{Passes}
 use Rattle.networks.specs.Cut.{fragment, Agrees, cut, Cuts}

@@ -1,6 +1,6 @@
 -- Laws about the definitions of specs/, in the order in which they rest on each other.
 --     Boxes, Wires, Entries       boxes by kind and id; the order of wires; what a sheet or a list says of a box
---     Named, Answers              the box that an answer names; answers and refusals taken apart
+--     Named, Lowest              the box that an answer names; answers and refusals taken apart
 --     Order                       the order that the laws of choice make
 --     Pieces, Formed, Soundness   what a fragment has, what of it every cut keeps, and that it is sound
 --     Cutting, Refused            the cutter's answers; what a refusal tells
@@ -13,7 +13,7 @@ pub mod Boxes
 pub mod Wires
 pub mod Entries
 pub mod Named
-pub mod Answers
+pub mod Lowest
 pub mod Order
 pub mod Pieces
 pub mod Formed

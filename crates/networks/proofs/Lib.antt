@@ -5,7 +5,6 @@
 --     PaperCut, FragmentSound, OneFragment     the fragment: the paper's, sound, and the network itself where nothing is cut
 --     FragmentsAndWhole, Recutting     the two halves of demand 3
 --     PaperTheorems                what document 000 proves
---     BestRoute, HouseRoutes       what the laws of choice give, and that the house's routes keep them
 --     Laws                         all else
 pub mod SoundTest
 pub mod Passing
@@ -18,5 +17,4 @@ pub mod FragmentsAndWhole
 pub mod Recutting
 pub mod PaperTheorems
 pub mod BestRoute
-pub mod HouseRoutes
 pub mod Laws

@@ -4,12 +4,14 @@ use mathlib.Core.Bool.{true, true≢false}
 use mathlib.Core.Option.{some}
 use Prim.Native.Nat.{ℕ}
 use borrow.Author.Tests.{eq-eqb}
-use Rattle.lists.specs.All.{All, all-map, all-any}
+use Rattle.lists.specs.All.{All}
+use Rattle.lists.proofs.All.{all-map, all-any}
 use Rattle.networks.specs.Algebra.{Algebra}
 use Rattle.networks.specs.Network.{Own, NetworkOver, ownBoxes}
 use Rattle.networks.specs.Sound.{Bounds, Sound}
 use Rattle.networks.specs.Sheets.{Sheet, number, note}
-use Rattle.networks.specs.Answer.{given, Entered}
+use Rattle.lists.specs.Answer.{given}
+use Rattle.networks.specs.Lowest.{Entered}
 use Rattle.networks.specs.Cut.{leaves, numbered, cut}
 use Rattle.networks.proofs.Laws.Cutting.{cut-answer}
 use Rattle.networks.proofs.Laws.Uncut.{none-leaves, same-network}

@@ -3,12 +3,13 @@
 use mathlib.Core.Path.{_≡_, sym, ap, subst}
 use mathlib.Core.Option.{some}
 use Prim.Native.Nat.{ℕ}
-use Rattle.lists.specs.All.{All, all-map, all-both}
+use Rattle.lists.specs.All.{All}
+use Rattle.lists.proofs.All.{all-map, all-both}
 use Rattle.networks.specs.Algebra.{Algebra}
 use Rattle.networks.specs.Network.{Own, NetworkOver, isBox, ownBoxes}
 use Rattle.networks.specs.Sound.{Bounds, Sound}
 use Rattle.networks.specs.Sheets.{Sheet, note}
-use Rattle.networks.specs.Answer.{Entered}
+use Rattle.networks.specs.Lowest.{Entered}
 use Rattle.networks.specs.Solution.{Solution, Holds}
 use Rattle.networks.specs.Cut.{only, fragment, Agrees}
 use Rattle.networks.specs.Paper.{MadeUp}

@@ -11,7 +11,8 @@ use Rattle.networks.specs.Algebra.{Algebra}
 use Rattle.networks.specs.Network.{Own, own, NetworkOver, ownBoxes, box}
 use Rattle.networks.specs.Sound.{Bounds, Sound}
 use Rattle.networks.specs.Sheets.{RouteList, listed}
-use Rattle.networks.specs.Answer.{given, Entered}
+use Rattle.lists.specs.Answer.{given}
+use Rattle.networks.specs.Lowest.{Entered}
 use Rattle.networks.specs.Solution.{mapping, Solution, Demands}
 use Rattle.networks.specs.Judge.{pass, found, fault, judge, Passes, upTo}
 use Rattle.networks.proofs.Laws.Boxes.{own-rise}

@@ -6,13 +6,14 @@ use mathlib.Core.Bool.{Bool, true, false, _&&_}
 use Prim.Native.Nat.{ℕ}
 use lib.Dec.{eqb}
 use borrow.Author.Tests.{eqb-true, eq-eqb}
-use Rattle.lists.specs.Test.{and-l, and-r, and-i}
-use Rattle.lists.specs.All.{any, any-found}
+use Rattle.lists.proofs.Test.{and-l, and-r, and-i}
+use Rattle.lists.specs.All.{any}
+use Rattle.lists.proofs.All.{any-found}
 use Rattle.networks.specs.Algebra.{Algebra}
-use Rattle.networks.specs.Network.{Own, NetworkOver, isOwn, ownBoxes, owns}
+use Rattle.networks.specs.Network.{Own, NetworkOver, isOwnBox, ownBoxes, owns}
 use Rattle.networks.specs.Sound.{Bounds, Sound}
 use Rattle.networks.specs.Sheets.{Sheet, number}
-use Rattle.networks.specs.Answer.{given, refused}
+use Rattle.lists.specs.Answer.{given, refused}
 use Rattle.networks.specs.Cut.{fragment, numbered, cut, cutTwice, Cuts, Third}
 use Rattle.networks.proofs.Laws.Boxes.{own-there, own-any}
 use Rattle.networks.proofs.Laws.Formed.{Formed, sound-formed}
@@ -64,7 +65,7 @@ module _ (𝓐 : Algebra) (B : Bounds) (N : NetworkOver 𝓐) (X Y Z : Sheet (�
       none-both true q =
           let f = any-found (λ (b : Own Route Demand). numbered N X x b && numbered N Y y b) (ownBoxes N) (own-there N (formed .rise)) q in
           let b = f .0 in
-          absurd (apart (b .id) (ap isOwn (f .1))
+          absurd (apart (b .id) (ap isOwnBox (f .1))
           (eqb-true (number X (b .id)) x (and-l (numbered N X x b) (numbered N Y y b) (f .2)))
           (eqb-true (number Y (b .id)) y (and-r (numbered N X x b) (numbered N Y y b) (f .2))))
 

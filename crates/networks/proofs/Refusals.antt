@@ -10,7 +10,8 @@ use Rattle.networks.specs.Algebra.{Algebra}
 use Rattle.networks.specs.Network.{Own, NetworkOver, owns}
 use Rattle.networks.specs.Sound.{Bounds, Sound}
 use Rattle.networks.specs.Sheets.{Sheet, RouteList, number, note, listed}
-use Rattle.networks.specs.Answer.{given, refused, LowestOwn, Entered}
+use Rattle.lists.specs.Answer.{given, refused}
+use Rattle.networks.specs.Lowest.{LowestOwn, Entered}
 use Rattle.networks.specs.Judge.{judge}
 use Rattle.networks.specs.Cut.{fragment, Clashes, cut}
 use Rattle.networks.proofs.Laws.Cutting.{cut-given}

@@ -5,8 +5,8 @@ use mathlib.Core.Logic.{_↔_}
 use lib.Dec.{eqb, ltb}
 use lib.ListN.{length}
 use borrow.Author.Tests.{leb-true, le-leb, ltb-true, lt-ltb, eqb-false, ne-eqb, not-true}
-use Rattle.lists.specs.All.{all-map, all-true, true-all}
-use Rattle.lists.specs.Sorted.{rises-true, true-rises}
+use Rattle.lists.proofs.All.{all-map, all-true, true-all}
+use Rattle.lists.proofs.Sorted.{rises-true, true-rises}
 use Rattle.networks.specs.Network.{Box, Input, Wire, Network, ids, wireKey, boxId, ownBoxes, inputs}
 use Rattle.networks.specs.Sound.{Bounds, Joined, Sound, sends, hold, joinedTests, soundTests, sound}
 

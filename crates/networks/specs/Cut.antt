@@ -8,7 +8,7 @@ use mathlib.Core.Path.{_≡_}
 use mathlib.Core.Bool.{Bool, true, false, cond, not, _&&_}
 use mathlib.Core.Logic.{_↔_}
 use mathlib.Core.Option.{Option, none, some, Option·map}
-use mathlib.Core.List.{filterMap}
+use mathlib.Core.List.{filterMap, List, _∷_, []}
 use Prim.Native.Nat.{ℕ}
 use lib.Dec.{eqb}
 use Rattle.lists.specs.All.{All, any}
@@ -16,7 +16,9 @@ use Rattle.lists.specs.Filter.{filter}
 use Rattle.networks.specs.Algebra.{Algebra}
 use Rattle.networks.specs.Network.{Own, Box, own, input, Wire, Network, ownBoxes, owns}
 use Rattle.networks.specs.Sheets.{Sheet, number, note}
-use Rattle.networks.specs.Answer.{Answer, given, refused, refuse, andThen, lowest, isSome, unentered}
+use Rattle.lists.specs.Answer.{Answer, given, refused, andThen, isSome, row}
+use Rattle.networks.specs.Lowest.{lowest, unentered}
+use Rattle.lists.specs.Test.{firstOf}
 
 -- A network's own promise stays. Without one the note is promised where a cut wire leaves, and otherwise nothing.
 abbrev pub promised : {R : Type 0} → Option R → Bool → Option R → Option R
@@ -46,8 +48,8 @@ module _ {R P D : Type 0} (N : Network R P D) (S : Sheet R) where
   feeds κ i = any (λ (w : Wire). eqb (w .from) i && κ (number S (w .to))) (N .wires)
 
   -- an own box in its own fragment
-  abbrev pub promising : Own R D → Own R D
-  promising b = record {
+  abbrev pub promisingOwn : Own R D → Own R D
+  promisingOwn b = record {
     id = b .id;
     initial = b .initial;
     promise = promised (b .promise) (leaves (b .id)) (note S (b .id));
@@ -56,7 +58,7 @@ module _ {R P D : Type 0} (N : Network R P D) (S : Sheet R) where
 
   -- What the fragment with the numbers κ keeps of a box: its own boxes, and as inputs the boxes that feed it.
   abbrev pub piece : (ℕ → Bool) → Box R D → Option (Box R D)
-  piece κ (own b) = cond (κ (number S (b .id))) (some (own (promising b)))
+  piece κ (own b) = cond (κ (number S (b .id))) (some (own (promisingOwn b)))
       (cond (feeds κ (b .id)) (Option·map (assuming b) (note S (b .id))) none)
   piece κ (input a) = cond (feeds κ (a .id)) (some (input a)) none
 
@@ -96,12 +98,17 @@ module _ (𝓐 : Algebra) where
   abbrev pub Clashes : Network Route Policy Demand → Sheet Route → Own Route Demand → Type 0
   Clashes N S b = (leaves N S (b .id) ≡ true) × ((q : Route) × (b .promise ≡ some q) × (note S (b .id) ≡ some q → ⊥))
 
+  -- what is refused: an own box without an entry; a number that no own box has; a promise that is not the note of a box that a cut
+  -- wire leaves
+  abbrev pub cutTable : Network Route Policy Demand → Sheet Route → ℕ → {A : Type 0} → List (Bool × Answer A)
+  cutTable N S k =
+      row 17 (unentered N (note S)) ∷
+      row 18 (cond (any (numbered N S k) (ownBoxes N)) none (some k)) ∷
+      row 19 (lowest (clashes N S) (ownBoxes N)) ∷
+      []
+
   unfoldable pub cut : Network Route Policy Demand → Sheet Route → ℕ → Answer (Network Route Policy Demand)
-  cut N S k =
-      refuse 17 (unentered N (note S))
-      (refuse 18 (cond (any (numbered N S k) (ownBoxes N)) none (some k))
-      (refuse 19 (lowest (clashes N S) (ownBoxes N))
-      (given (fragment N S k))))
+  cut N S k = firstOf (cutTable N S k) (given (fragment N S k))
 
   -- Fragment x by one sheet, and of that fragment y by another.
   abbrev pub cutTwice : Network Route Policy Demand → Sheet Route → ℕ → Sheet Route → ℕ → Answer (Network Route Policy Demand)

@@ -14,7 +14,8 @@ use Rattle.lists.specs.Filter.{filter}
 use Rattle.networks.specs.Algebra.{Algebra}
 use Rattle.networks.specs.Network.{Own, Network, ownBoxes}
 use Rattle.networks.specs.Sheets.{RouteList, listed}
-use Rattle.networks.specs.Answer.{Answer, given, refused, refuse, unentered}
+use Rattle.lists.specs.Answer.{Answer, given, refused, row}
+use Rattle.networks.specs.Lowest.{unentered}
 use Rattle.networks.specs.Solution.{due, mapping}
 
 -- A finding's number, and the route that is given with it.
@@ -61,10 +62,12 @@ module _ (𝓐 : Algebra) where
   verdictFrom N L before [] = pass before
   verdictFrom N L before (b ∷ bs) = stop (fault N L b) (b .id) (suc before) (verdictFrom N L (suc before) bs)
 
+  -- what is refused: an own box without an entry
+  abbrev pub judgeTable : Network Route Policy Demand → RouteList Route → {A : Type 0} → List (Bool × Answer A)
+  judgeTable N L = row 17 (unentered N (listed L)) ∷ []
+
   unfoldable pub judge : Network Route Policy Demand → RouteList Route → Answer (Verdict Route)
-  judge N L =
-      refuse 17 (unentered N (listed L))
-      (given (verdictFrom N L 0 (ownBoxes N)))
+  judge N L = firstOf (judgeTable N L) (given (verdictFrom N L 0 (ownBoxes N)))
 
   -- the list passes in the network, with all own boxes judged
   abbrev pub Passes : Network Route Policy Demand → RouteList Route → Type 0

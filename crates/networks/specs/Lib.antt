@@ -4,9 +4,8 @@ pub mod Algebra
 pub mod Network
 pub mod Sound
 pub mod Sheets
-pub mod Answer
+pub mod Lowest
 pub mod Solution
 pub mod Judge
 pub mod Cut
 pub mod Paper
-pub mod House

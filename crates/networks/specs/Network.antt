@@ -69,10 +69,10 @@ module _ {R D : Type 0} where
   isBox none = false
   isBox (some v) = true
 
-  abbrev pub isOwn : Option (Box R D) → Bool
-  isOwn none = false
-  isOwn (some (own b)) = true
-  isOwn (some (input a)) = false
+  abbrev pub isOwnBox : Option (Box R D) → Bool
+  isOwnBox none = false
+  isOwnBox (some (own b)) = true
+  isOwnBox (some (input a)) = false
 
 module _ {R P D : Type 0} (N : Network R P D) where
   abbrev pub ownBoxes : List (Own R D)
@@ -89,7 +89,7 @@ module _ {R P D : Type 0} (N : Network R P D) where
   hasBox i = isBox (box i)
 
   abbrev pub owns : ℕ → Bool
-  owns i = isOwn (box i)
+  owns i = isOwnBox (box i)
 
   abbrev pub wiresInto : ℕ → List Wire
   wiresInto i = filter (λ (w : Wire). eqb (w .to) i) (N .wires)

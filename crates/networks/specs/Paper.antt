@@ -13,7 +13,7 @@ use Rattle.lists.specs.All.{any}
 use Rattle.networks.specs.Algebra.{Algebra}
 use Rattle.networks.specs.Network.{Box, own, input, Wire, Network, NetworkOver, box, hasBox, owns}
 use Rattle.networks.specs.Sheets.{Sheet, number, note}
-use Rattle.networks.specs.Answer.{isSome}
+use Rattle.lists.specs.Answer.{isSome}
 use Rattle.networks.specs.Solution.{trans}
 use Rattle.networks.specs.Cut.{isCut, leaves, fragment}
 
@@ -65,11 +65,11 @@ module _ {R P D : Type 0} (N : Network R P D) (S : Sheet R) (k : ℕ) where
   wiredInto u = any (λ (w : Wire). eqb (w .from) u && W (w .to)) (N .wires)
 
   -- ∃ uv ∈ dom(I). v ∈ Wₖ
-  abbrev pub cutInto : ℕ → Bool
-  cutInto u = any (λ (w : Wire). eqb (w .from) u && (isCut N S w && W (w .to))) (N .wires)
+  abbrev pub cutWireInto : ℕ → Bool
+  cutWireInto u = any (λ (w : Wire). eqb (w .from) u && (isCut N S w && W (w .to))) (N .wires)
 
   abbrev pub V-in-k : ℕ → Bool
-  V-in-k u = (V-in N u && wiredInto u) || cutInto u
+  V-in-k u = (V-in N u && wiredInto u) || cutWireInto u
 
   abbrev pub V-out-k : ℕ → Bool
   V-out-k u = (W u && V-out N u) || (W u && leaves N S u)

@@ -8,7 +8,7 @@ use native.Mathlib.Omega.{arith}
 use lib.ListN.{length, getD, take, drop}
 use lib.Seq.{getD-append-add, getD-append-seam, drop-cons}
 use Rattle.lists.specs.All.{All}
-use Rattle.lists.specs.Codec.{Codec, pair, named}
+use Rattle.lists.proofs.Codec.{Codec, pair, named}
 use Rattle.numbers.specs.BigEndian.{u16At, u32At, u16Bytes, u32Bytes}
 
 pub length-u16 : (v : ℕ) → length (u16Bytes v) ≡ 2
@@ -80,7 +80,3 @@ u32-value b o = refl
 pub u32-bytes : (v : ℕ) → u32 .bytes v ≡ u32Bytes v
 unfolding u32Bytes
 u32-bytes v = refl
-
-pub length-u32 : (v : ℕ) → length (u32Bytes v) ≡ 4
-unfolding u32Bytes u16Bytes
-length-u32 v = refl

@@ -11,8 +11,8 @@ use lib.Dec.{leb}
 use lib.ListN.{length, length-append}
 use borrow.Author.Tests.{le-leb, lt-leb}
 use Rattle.io.specs.Digits.{digits, glyph, Fewest}
-use Rattle.lists.specs.First.{first-here, first-none, first-le}
-use Rattle.lists.specs.Test.{le-or-lt}
+use Rattle.lists.proofs.First.{first-here, first-none, first-le}
+use Rattle.lists.proofs.Test.{le-or-lt}
 use Rattle.numbers.specs.Decimal.{places, decimal}
 
 pub length-digits : (b k n : ℕ) → length (digits b k n) ≡ k

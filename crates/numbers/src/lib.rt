@@ -1,18 +1,25 @@
-// Numbers as a record holds them (big-endian) and as a line of text does (decimal).
+// Numbers as a record holds them: big-endian. Their decimal digits, which `lines` puts into a text, are among the definitions.
 //
 // The readers and writers of a record's numbers ask for the room that they touch: their callers have tested the whole
-// record before, and a second test at each number would only cost time. `place` and `put_decimal`
-// have no `requires`.
+// record before, and a second test at each number would only cost time. `wide` and `wide16` have no `requires`.
+mod counting;
+mod runs;
+
+pub use counting::stride;
+pub use counting::wide;
+pub use counting::wide16;
+pub use runs::all_zero;
+pub use runs::put_part;
+pub use runs::put_zeros;
 ghost use mathlib.Core.Path.{_≡_};
 ghost use mathlib.Core.List.{[], _∷_};
 ghost use Prim.Native.Nat.{_+_, _≤_, _<_};
 ghost use lib.ListN.{length};
 ghost use lib.Seq.{sets};
-ghost use Rattle.lists.specs.Laid.{placed};
 ghost use Rattle.numbers.specs.BigEndian.{u16At, u32At, u16Bytes, u32Bytes};
-ghost use Rattle.numbers.specs.Decimal.{decimal};
 
-fn wide(x: u8) -> u16
+// A byte as the number of two bytes that it is the low one of.
+fn low_byte(x: u8) -> u16
     ensures { λ r. ⌜ (r ≡ x) × (r < 256) ⌝ }
 {
     x as u16
@@ -23,7 +30,7 @@ pub fn u16_at(b: &[u8], at: usize) -> u16
     requires { ⌜ at + 2 ≤ length (now b) ⌝ }
     ensures { λ r. ⌜ r ≡ u16At (now (b .entry)) at ⌝ }
 {
-    wide(b[at]) * 256 + wide(b[at + 1])
+    low_byte(b[at]) * 256 + low_byte(b[at + 1])
 }
 
 // The number of the four bytes of b at an offset.
@@ -58,26 +65,4 @@ pub fn put_u32(out: &mut [u8], at: usize, v: u32)
 {
     put_u16(out, at, (v / 65536) as u16);
     put_u16(out, at + 2, (v % 65536) as u16);
-}
-
-// Puts a text at the start of out. Where out is shorter it is left as it was.
-pub fn place(text: &[u8], out: &mut [u8])
-    ensures { λ _. ⌜ now (out .exit) ≡ placed (now (text .entry)) (now (out .entry)) ⌝ }
-{
-    if out.len() < text.len() {
-        return;
-    }
-    bytes::copy(text, out);
-}
-
-// Puts n's decimal digits at the start of out and answers how many there are. Where out is shorter it is left as it was,
-// and the answer is the same.
-pub fn put_decimal(n: u64, out: &mut [u8]) -> usize
-    ensures count { λ r. ⌜ r ≡ length (decimal n) ⌝ }
-    ensures text { λ _. ⌜ now (out .exit) ≡ placed (decimal n) (now (out .entry)) ⌝ }
-{
-    let mut text = [0u8; 20];
-    let count = io::decimal(n, &mut text);
-    place(&text[0..count], out);
-    count
 }

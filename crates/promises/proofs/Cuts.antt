@@ -4,105 +4,106 @@
 --     given-asked                      a fragment that is given was asked for by a byte
 --     cuts-network, cuts-sheet, cuts-said    neither record is refused, and the sheet cuts what the network says
 use mathlib.Core.Path.{_≡_, refl, sym, ap, _∙_}
-use mathlib.Core.Bool.{Bool, true, false, cond, false≢true}
+use mathlib.Core.Bool.{Bool, true, false, false≢true}
 use mathlib.Core.List.{List, [], _∷_}
 use mathlib.Core.Logic.{_⊎_, ⊎-elim}
 use mathlib.Core.Option.{Option, none, some, Option·map, Option·getD}
 use Prim.Native.Nat.{ℕ, _≤_, _<_}
 use native.Mathlib.Omega.{arith}
-use lib.Dec.{eqb, leb}
+use lib.Dec.{leb}
 use lib.ListN.{length, take}
 use lib.Seq.{take-append-seam}
-use borrow.Author.Tests.{eqb-true, ne-eqb, leb-true}
-use Rattle.lists.specs.All.{All, all, any, all-of, false-any}
-use Rattle.lists.specs.Codec.{Bytes}
-use Rattle.lists.specs.Sorted.{find-all}
-use Rattle.lists.specs.Test.{firstOf, and-l, and-r, le-or-lt}
+use borrow.Author.Tests.{ne-eqb, leb-true}
+use Rattle.lists.specs.All.{All, any}
+use Rattle.lists.proofs.All.{all-of, false-any}
+use Rattle.lists.specs.Bytes.{Bytes}
+use Rattle.lists.proofs.Sorted.{find-all}
+use Rattle.lists.specs.Test.{firstOf}
+use Rattle.lists.proofs.Test.{le-or-lt}
 use Rattle.routes.specs.declared.Route.{Route}
-use Rattle.networks.specs.Answer.{Answer, given, refused, refuse, andThen, unentered}
+use Rattle.lists.specs.Answer.{Answer, given, refused, andThen, row}
+use Rattle.networks.specs.Lowest.{unentered}
 use Rattle.networks.specs.Cut.{numbered, cut, cutTwice, Cuts}
 use Rattle.networks.specs.Network.{ownBoxes}
 use Rattle.networks.specs.Sheets.{SheetEntry, sheetEntry, number, note}
 use Rattle.networks.specs.Sound.{Sound}
-use Rattle.networks.proofs.Laws.Answers.{given-same, refused-given, refused-number}
+use Rattle.lists.proofs.Answer.{given-same, refused-given, refused-number, first-meets}
 use Rattle.networks.proofs.Laws.Cutting.{cut-given}
 use Rattle.networks.proofs.Refusals.{cut-refused}
-use Rattle.records.specs.Entries.{entriesTable, entriesRefusal, sheetRefusal}
-use Rattle.records.specs.Form.{version1, sheetLead}
-use Rattle.records.specs.Network.{networkTable, networkRefusal}
-use Rattle.records.specs.Numbers.{Numbers, fine}
-use Rattle.reading.specs.Whole.{HouseNetwork, HouseSheet, bounds, writeNetwork}
+use Rattle.entries.specs.Entries.{entriesTable, entriesRefusal, sheetRefusal, WellFormed}
+use Rattle.layout.specs.Form.{sheetLead, formOf}
+use Rattle.records.specs.Network.{networkTable, networkRefusal, SoundRecord}
+use Rattle.reading.specs.Whole.{HouseNetwork, HouseSheet, bounds, writeNetwork, networkOf, sheetOf, readNetwork}
 use Rattle.reading.proofs.Bridges.{read-network, read-sheet}
-use Rattle.reading.proofs.Refused.{Rows, no-network, no-entries}
 use Rattle.cutting.specs.Cutting.{cutNetwork, cutRecords, cutBuffer}
-use Rattle.cutting.proofs.OnBytes.{cut-said, cut-laid, record-largest, record-fine, record-read, record-small}
-use Rattle.promises.specs.Calls.{networkOf, sheetOf, house1, cutInto, Roomy, SheetCuts}
+use Rattle.cutting.proofs.OnBytes.{cut-said, cut-laid, record-largest, record-fine, record-read, record-small, record-form}
+use Rattle.promises.specs.Calls.{house1, cutInto, Roomy, SheetCuts}
 use Rattle.promises.specs.Demand3 as demand
+use Rattle.layout.specs.declared.Form.{Form}
+use Rattle.records.proofs.Checked.{given-network, given-entries}
 
 -- a fragment's record
-abbrev pub written : HouseNetwork → Answer (List ℕ)
-written F = given (writeNetwork version1 F)
+abbrev pub written : Form → HouseNetwork → Answer (List ℕ)
+written f F = given (writeNetwork f F)
 
-module _ (network sheet : List ℕ) (k : ℕ) (out : List ℕ) (small : Bytes network) (roomy : Roomy out) where
-  pub into-fragment : cutInto network sheet k out ≡ andThen (cutNetwork network sheet k) written
+module _ (network sheet : List ℕ) (k : ℕ) (out : List ℕ) (small : Bytes network) (roomy : Roomy (formOf network) out) where
+  abbrev f : Form
+  f = formOf network
+
+  pub into-fragment : cutInto network sheet k out ≡ andThen (cutNetwork network sheet k) (written f)
   unfolding cutInto cutRecords
   into-fragment = go (cutNetwork network sheet k) refl
     where
-      go : (a : Answer HouseNetwork) → cutNetwork network sheet k ≡ a → cutInto network sheet k out ≡ andThen a written
+      go : (a : Answer HouseNetwork) → cutNetwork network sheet k ≡ a → cutInto network sheet k out ≡ andThen a (written f)
       go (given F) q =
           let short = record-largest network sheet k small F q in
           let laid = cut-laid network sheet k out F q (omega arith) in
           ap (λ (a : Answer ℕ). andThen a (λ (n : ℕ). given (take n (cutBuffer network sheet k out)))) (laid .0)
-          ∙ ap (λ (b : List ℕ). given (take (length (writeNetwork version1 F)) b)) (laid .1)
-          ∙ ap given (take-append-seam (writeNetwork version1 F) _)
+          ∙ ap (λ (b : List ℕ). given (take (length (writeNetwork f F)) b)) (laid .1)
+          ∙ ap given (take-append-seam (writeNetwork f F) _)
       go (refused m p) q = rw q refl
 
   -- a record that was left is a fragment's
-  pub into-given : (F : List ℕ) → cutInto network sheet k out ≡ given F → (G : HouseNetwork) × (cutNetwork network sheet k ≡ given G) × (F ≡ writeNetwork version1 G)
+  pub into-given : (F : List ℕ) → cutInto network sheet k out ≡ given F → (G : HouseNetwork) × (cutNetwork network sheet k ≡ given G) × (F ≡ writeNetwork f G)
   into-given F e = go (cutNetwork network sheet k) refl (sym into-fragment ∙ e)
     where
-      go : (a : Answer HouseNetwork) → cutNetwork network sheet k ≡ a → andThen a written ≡ given F
-          → (G : HouseNetwork) × (cutNetwork network sheet k ≡ given G) × (F ≡ writeNetwork version1 G)
+      go : (a : Answer HouseNetwork) → cutNetwork network sheet k ≡ a → andThen a (written f) ≡ given F
+          → (G : HouseNetwork) × (cutNetwork network sheet k ≡ given G) × (F ≡ writeNetwork f G)
       go (given G) q z = (G, q, sym (given-same z))
       go (refused m p) q z = absurd (refused-given z)
 
-module _ (network X Y : List ℕ) (x y : ℕ) (o₁ o₂ : List ℕ) (small : Bytes network) (first-small : Bytes X) (roomy₁ : Roomy o₁) (roomy₂ : Roomy o₂)
-    (n : networkRefusal network ≡ fine) (f : sheetRefusal X ≡ fine) (s : sheetRefusal Y ≡ fine) where
-  pub twice-said : demand.cutTwice network X x o₁ Y y o₂ ≡ andThen (cutTwice house1 (networkOf network) (sheetOf X) x (sheetOf Y) y) written
+module _ (network X Y : List ℕ) (x y : ℕ) (o₁ o₂ : List ℕ) (small : Bytes network) (first-small : Bytes X)
+    (roomy₁ : Roomy (formOf network) o₁) (roomy₂ : Roomy (formOf network) o₂)
+    (n : SoundRecord network) (first-formed : WellFormed sheetLead X) (second-formed : WellFormed sheetLead Y) where
+  abbrev g : Form
+  g = formOf network
+
+  pub twice-said : demand.cutTwice network X x o₁ Y y o₂ ≡ andThen (cutTwice house1 (networkOf network) (sheetOf X) x (sheetOf Y) y) (written g)
   twice-said =
       ap (λ (a : Answer (List ℕ)). andThen a (λ (F : List ℕ). cutInto F Y y o₂)) (into-fragment network X x o₁ small roomy₁)
       ∙ go (cutNetwork network X x) refl
-      ∙ ap (λ (a : Answer HouseNetwork). andThen (andThen a (λ (G : HouseNetwork). cut house1 G (sheetOf Y) y)) written) (cut-said network X x n f)
+      ∙ ap (λ (a : Answer HouseNetwork). andThen (andThen a (λ (G : HouseNetwork). cut house1 G (sheetOf Y) y)) (written g)) (cut-said network X x n first-formed)
     where
       go : (a : Answer HouseNetwork) → cutNetwork network X x ≡ a
-          → andThen (andThen a written) (λ (F : List ℕ). cutInto F Y y o₂) ≡ andThen (andThen a (λ (G : HouseNetwork). cut house1 G (sheetOf Y) y)) written
+          → andThen (andThen a (written g)) (λ (F : List ℕ). cutInto F Y y o₂) ≡ andThen (andThen a (λ (G : HouseNetwork). cut house1 G (sheetOf Y) y)) (written g)
       go (given G) q =
-          let W = writeNetwork version1 G in
-          into-fragment W Y y o₂ (record-small network X x small G q first-small) roomy₂
-          ∙ ap (λ (a : Answer HouseNetwork). andThen a written)
-          (cut-said W Y y (record-fine network X x small G q first-small) s
-          ∙ ap (λ (H : HouseNetwork). cut house1 H (sheetOf Y) y) (record-read network X x small G q first-small))
+          let W = writeNetwork g G in
+          let form : formOf W ≡ g = record-form network X x small G q first-small in
+          into-fragment W Y y o₂ (record-small network X x small G q first-small) (rw form roomy₂)
+          ∙ ap (λ (h : Form). andThen (cutNetwork W Y y) (written h)) form
+          ∙ ap (λ (a : Answer HouseNetwork). andThen a (written g))
+          (cut-said W Y y (record-fine network X x small G q first-small) second-formed
+          ∙ ap (λ (H : HouseNetwork). cut house1 H (sheetOf Y) y)
+          (ap (λ (h : Form). readNetwork h W) form ∙ record-read network X x small G q first-small))
       go (refused m p) q = refl
 
--- numbers of a table's rows are up to m
-within-rows : (m : ℕ) (rows : Rows) → all (λ (r : Bool × Numbers). leb (r .1 .number) m) rows ≡ true → firstOf rows fine .number ≤ m
-within-rows m [] h = omega arith
-within-rows m (r ∷ rows) h = go (r .0) (within-rows m rows (and-r (leb (r .1 .number) m) _ h))
-  where
-    go : (t : Bool) → firstOf rows fine .number ≤ m → cond t (r .1) (firstOf rows fine) .number ≤ m
-    go true l = leb-true (r .1 .number) m (and-l (leb (r .1 .number) m) _ h)
-    go false l = l
+-- no number of a table's rows is over 17
+abbrev low : {A : Type 0} → Answer A → Bool
+low (given x) = true
+low (refused number place) = leb number 17
 
-network-within : (b : List ℕ) → networkRefusal b .number ≤ 10
-unfolding networkRefusal
-network-within b = within-rows 10 (networkTable version1 b) refl
-
-sheet-within : (b : List ℕ) → sheetRefusal b .number ≤ 16
-unfolding entriesRefusal
-sheet-within b = within-rows 16 (entriesTable version1 sheetLead b) refl
-
-neither : (m : ℕ) → m ≤ 17 → (m ≡ 18) ⊎ (m ≡ 20) → ⊥
-neither m l h = ⊎-elim (λ e. omega arith) (λ e. omega arith) h
+neither : (m : ℕ) → leb m 17 ≡ true → (m ≡ 18) ⊎ (m ≡ 20) → ⊥
+neither m e h = let l = leb-true m 17 e in ⊎-elim (λ e. omega arith) (λ e. omega arith) h
 
 -- a well-formed sheet has no number over 64, which stands for no entry
 number-small : (S : HouseSheet) → All (λ (e : SheetEntry Route). e .fragment ≤ 63) S → (i : ℕ) → number S i ≤ 64
@@ -113,7 +114,7 @@ number-small S h i = go (sheetEntry S i) refl
     go none q = omega arith
     go (some e) q = let l = find-all (λ (x : SheetEntry Route). x .id) (λ (x : SheetEntry Route). x .fragment ≤ 63) i S e h q in omega arith
 
-module _ (network sheet : List ℕ) (sheet-small : Bytes sheet) (s : sheetRefusal sheet ≡ fine) (k : ℕ) where
+module _ (network sheet : List ℕ) (sheet-small : Bytes sheet) (s : WellFormed sheetLead sheet) (k : ℕ) where
   abbrev N : HouseNetwork
   N = networkOf network
 
@@ -125,7 +126,7 @@ module _ (network sheet : List ℕ) (sheet-small : Bytes sheet) (s : sheetRefusa
       (all-of (ownBoxes N) (λ b. ne-eqb (number S (b .id)) k (λ e. let m = number-small S ((read-sheet sheet sheet-small s) .0 .fragments) (b .id) in omega arith)))
 
   -- a number that is no byte is refused with 17 or 18
-  over-refused : 256 ≤ k → cut house1 N S k ≡ refuse 17 (unentered N (note S)) (refused 18 k)
+  over-refused : 256 ≤ k → cut house1 N S k ≡ firstOf (row 17 (unentered N (note S)) ∷ []) (refused 18 k)
   unfolding cut
   over-refused l = rw (none-asked l) refl
 
@@ -138,26 +139,26 @@ unfolding cut
 unentered-refused N S k i q = rw q refl
 
 module _ (network sheet : List ℕ) (cuts : SheetCuts network sheet) where
-  pub cuts-network : networkRefusal network ≡ fine
-  unfolding cutRecords cutNetwork
-  cuts-network = go (eqb (networkRefusal network .number) 0) refl
+  pub cuts-network : SoundRecord network
+  unfolding cutRecords cutNetwork networkRefusal
+  cuts-network = go (networkRefusal network) refl
+      (first-meets low (networkTable (formOf network) network) (given (formOf network)) refl refl)
     where
-      go : (t : Bool) → eqb (networkRefusal network .number) 0 ≡ t → networkRefusal network ≡ fine
-      go true q = no-network network (eqb-true _ 0 q)
-      go false q = absurd (neither (networkRefusal network .number) (let l = network-within network in omega arith)
-          (cuts 0 0 (networkRefusal network .number) (networkRefusal network .place) (omega arith) (rw q refl)))
+      go : (a : Answer Form) → networkRefusal network ≡ a → low a ≡ true → SoundRecord network
+      go (given f) q l = given-network network f q
+      go (refused number place) q l = absurd (neither number l (cuts 0 0 number place (omega arith) (rw q refl)))
 
-  pub cuts-sheet : sheetRefusal sheet ≡ fine
-  unfolding cutRecords cutNetwork
-  cuts-sheet = go (eqb (sheetRefusal sheet .number) 0) refl
+  pub cuts-sheet : WellFormed sheetLead sheet
+  unfolding cutRecords cutNetwork entriesRefusal
+  cuts-sheet = go (sheetRefusal sheet) refl
+      (first-meets low (entriesTable (formOf sheet) sheetLead sheet) (given (formOf sheet)) refl refl)
     where
-      go : (t : Bool) → eqb (sheetRefusal sheet .number) 0 ≡ t → sheetRefusal sheet ≡ fine
-      go true q = no-entries sheetLead sheet (eqb-true _ 0 q)
-      go false q = absurd (neither (sheetRefusal sheet .number) (let l = sheet-within sheet in omega arith)
-          (cuts 0 0 (sheetRefusal sheet .number) (sheetRefusal sheet .place) (omega arith) (rw (cuts-network, q) refl)))
+      go : (a : Answer Form) → sheetRefusal sheet ≡ a → low a ≡ true → WellFormed sheetLead sheet
+      go (given f) q l = given-entries sheetLead sheet f q
+      go (refused number place) q l = absurd (neither number l (cuts 0 0 number place (omega arith) (rw (cuts-network, q) refl)))
 
   module _ (small : Bytes network) where
-    pub cuts-sound : Sound (bounds version1) (networkOf network)
+    pub cuts-sound : Sound (bounds (formOf network)) (networkOf network)
     cuts-sound = (read-network network small cuts-network) .0
 
     -- a refusal of what the records say is 18 or 20
@@ -172,11 +173,11 @@ module _ (network sheet : List ℕ) (cuts : SheetCuts network sheet) where
       where
         late : n ≡ 20 → ⊥
         late h = ⊎-elim (λ r. let m = r .0 in omega arith) (λ r. ⊎-elim (λ t. let m = t .0 in omega arith) (λ t. let m = t .0 in omega arith) r)
-            (cut-refused house1 (bounds version1) (networkOf network) cuts-sound (sheetOf sheet) k n place e)
+            (cut-refused house1 (bounds (formOf network)) (networkOf network) cuts-sound (sheetOf sheet) k n place e)
 
         over : 256 ≤ k → n ≡ 18
         over l = go (unentered (networkOf network) (note (sheetOf sheet))) refl (sym (over-refused network sheet sheet-small cuts-sheet k l) ∙ e)
           where
-            go : (o : Option ℕ) → unentered (networkOf network) (note (sheetOf sheet)) ≡ o → refuse {A = HouseNetwork} 17 o (refused 18 k) ≡ refused n place → n ≡ 18
+            go : (o : Option ℕ) → unentered (networkOf network) (note (sheetOf sheet)) ≡ o → firstOf (row {A = HouseNetwork} 17 o ∷ []) (refused 18 k) ≡ refused n place → n ≡ 18
             go none q z = sym (refused-number z)
-            go (some i) q z = absurd (neither 17 (omega arith) (said-refused 0 17 i (omega arith) (unentered-refused (networkOf network) (sheetOf sheet) 0 i q)))
+            go (some i) q z = absurd (neither 17 refl (said-refused 0 17 i (omega arith) (unentered-refused (networkOf network) (sheetOf sheet) 0 i q)))

@@ -5,8 +5,8 @@ use mathlib.Core.Logic.{_↔_}
 use Prim.Native.Nat.{ℕ, _<_}
 use native.Mathlib.Omega.{arith}
 use lib.ListN.{length, replicate, length-replicate}
-use Rattle.lists.specs.Codec.{Bytes}
-use Rattle.networks.specs.Answer.{Answer, given, andThen}
+use Rattle.lists.specs.Bytes.{Bytes}
+use Rattle.lists.specs.Answer.{Answer, given, andThen}
 use Rattle.networks.specs.Cut.{fragment, Agrees, cut, cutTwice as twice, Cuts}
 use Rattle.networks.specs.Judge.{Passes as Passing}
 use Rattle.networks.specs.Network.{ownBoxes}
@@ -15,51 +15,55 @@ use Rattle.networks.specs.Sound.{Sound}
 use Rattle.networks.proofs.FragmentsAndWhole.{fragments-and-whole}
 use Rattle.networks.proofs.Passing.{pass-count}
 use Rattle.networks.proofs.Recutting.{first-then-second, second-then-first, third-given, apart-refused}
-use Rattle.records.specs.Entries.{listRefusal}
-use Rattle.records.specs.Form.{version1}
-use Rattle.records.specs.Network.{networkRefusal}
-use Rattle.records.specs.Numbers.{fine}
 use Rattle.reading.specs.Largest.{largestNetwork}
-use Rattle.reading.specs.Whole.{HouseNetwork, bounds, writeNetwork}
+use Rattle.reading.specs.Whole.{HouseNetwork, bounds, writeNetwork, networkOf, sheetOf, listOf, readNetwork}
 use Rattle.judging.proofs.OnBytes.{judge-said}
 use Rattle.cutting.specs.Cutting.{cutNetwork}
-use Rattle.cutting.proofs.OnBytes.{cut-said, record-fine, record-read, record-small}
+use Rattle.cutting.proofs.OnBytes.{cut-said, record-fine, record-read, record-small, record-form}
 use Rattle.reading.proofs.Bridges.{read-network}
-use Rattle.promises.specs.Calls.{networkOf, sheetOf, listOf, house1, Passes, cutInto, Roomy}
+use Rattle.promises.specs.Calls.{house1, Passes, cutInto, Roomy}
 use Rattle.promises.specs.Demand3.{FragmentsAndWhole, Refined, CommonRefinement, ApartRefused}
 use Rattle.promises.proofs.Cuts.{written, into-fragment, into-given, twice-said, given-asked, cuts-network, cuts-sheet, cuts-sound, cuts-said}
+use Rattle.records.specs.Network.{SoundRecord}
+use Rattle.layout.specs.declared.Form.{Form}
+use Rattle.entries.specs.Entries.{WellFormed}
+use Rattle.layout.specs.Form.{formOf, listLead}
 
 -- a list passes on bytes where it passes on what they say
-module _ (network list : List ℕ) (n : networkRefusal network ≡ fine) (l : listRefusal list ≡ fine) where
+module _ (network list : List ℕ) (n : SoundRecord network) (l : WellFormed listLead list) where
   said-passes : Passing house1 (networkOf network) (listOf list) → Passes network list
   said-passes h = (length (ownBoxes (networkOf network)), judge-said network list n l ∙ h)
 
   passes-said : Bytes network → Passes network list → Passing house1 (networkOf network) (listOf list)
   passes-said small p =
       let e = sym (judge-said network list n l) ∙ p .1 in
-      let all = pass-count house1 (bounds version1) (networkOf network) (listOf list) ((read-network network small n) .0) (p .0) e in
+      let all = pass-count house1 (bounds (formOf network)) (networkOf network) (listOf list) ((read-network network small n) .0) (p .0) e in
       rw all at e
 
 -- a buffer with room
-blank : List ℕ
-blank = replicate (largestNetwork version1) 0
+blank : Form → List ℕ
+blank f = replicate (largestNetwork f) 0
 
-blank-roomy : Roomy blank
+blank-roomy : (f : Form) → Roomy f (blank f)
 unfolding blank
-blank-roomy = let e = length-replicate {A = ℕ} (largestNetwork version1) 0 in omega arith
+blank-roomy f = let e = length-replicate {A = ℕ} (largestNetwork f) 0 in omega arith
 
-module _ (network sheet list : List ℕ) (small : Bytes network) (sheet-small : Bytes sheet) (l : listRefusal list ≡ fine) (k : ℕ) (G : HouseNetwork)
+module _ (network sheet list : List ℕ) (small : Bytes network) (sheet-small : Bytes sheet) (l : WellFormed listLead list) (k : ℕ) (G : HouseNetwork)
     (e : cutNetwork network sheet k ≡ given G) where
   abbrev W : List ℕ
-  W = writeNetwork version1 G
+  W = writeNetwork (formOf network) G
+
+  -- what its record says
+  record-said : networkOf W ≡ G
+  record-said = ap (λ (f : Form). readNetwork f W) (record-form network sheet k small G e sheet-small) ∙ record-read network sheet k small G e sheet-small
 
   -- a list passes on a fragment's record where it passes on the fragment
   record-passes : Passing house1 G (listOf list) → Passes W list
   record-passes h = said-passes W list (record-fine network sheet k small G e sheet-small) l
-      (subst (λ (H : HouseNetwork). Passing house1 H (listOf list)) (sym (record-read network sheet k small G e sheet-small)) h)
+      (subst (λ (H : HouseNetwork). Passing house1 H (listOf list)) (sym record-said) h)
 
   fragment-passes : Passes W list → Passing house1 G (listOf list)
-  fragment-passes p = subst (λ (H : HouseNetwork). Passing house1 H (listOf list)) (record-read network sheet k small G e sheet-small)
+  fragment-passes p = subst (λ (H : HouseNetwork). Passing house1 H (listOf list)) record-said
       (passes-said W list (record-fine network sheet k small G e sheet-small) l (record-small network sheet k small G e sheet-small) p)
 
 pub fragments-whole : (network sheet list : List ℕ) → FragmentsAndWhole network sheet list
@@ -73,7 +77,7 @@ fragments-whole network sheet list small sheet-small cuts l entered = (
       (theorem .1 (passes-said network list n l small (h .0), h .1) k (g .0) (sym (said k) ∙ g .1))),
 )
   where
-    n : networkRefusal network ≡ fine
+    n : SoundRecord network
     n = cuts-network network sheet cuts
 
     said : (k : ℕ) → cutNetwork network sheet k ≡ cut house1 (networkOf network) (sheetOf sheet) k
@@ -81,28 +85,28 @@ fragments-whole network sheet list small sheet-small cuts l entered = (
 
     theorem : ((k : ℕ) (F : HouseNetwork) → cut house1 (networkOf network) (sheetOf sheet) k ≡ given F → Passing house1 F (listOf list))
         ↔ (Passing house1 (networkOf network) (listOf list) × Agrees (networkOf network) (sheetOf sheet) (listed (listOf list)))
-    theorem = fragments-and-whole house1 (bounds version1) (networkOf network) (sheetOf sheet) (listOf list)
+    theorem = fragments-and-whole house1 (bounds (formOf network)) (networkOf network) (sheetOf sheet) (listOf list)
         (cuts-sound network sheet cuts small) (cuts-said network sheet cuts small sheet-small) entered
 
-    in-part : ((k : ℕ) (out F : List ℕ) → k < 256 → Roomy out → cutInto network sheet k out ≡ given F → Passes F list)
+    in-part : ((k : ℕ) (out F : List ℕ) → k < 256 → Roomy (formOf network) out → cutInto network sheet k out ≡ given F → Passes F list)
         → (k : ℕ) (G : HouseNetwork) → cutNetwork network sheet k ≡ given G → Passing house1 G (listOf list)
     in-part h k G e = fragment-passes network sheet list small sheet-small l k G e
-        (h k blank (writeNetwork version1 G) (given-asked network sheet sheet-small (cuts-sheet network sheet cuts) k G (sym (said k) ∙ e)) blank-roomy
-        (into-fragment network sheet k blank small blank-roomy ∙ ap (λ (a : Answer HouseNetwork). andThen a written) e))
+        (h k (blank (formOf network)) (writeNetwork (formOf network) G) (given-asked network sheet sheet-small (cuts-sheet network sheet cuts) k G (sym (said k) ∙ e)) (blank-roomy (formOf network))
+        (into-fragment network sheet k (blank (formOf network)) small (blank-roomy (formOf network)) ∙ ap (λ (a : Answer HouseNetwork). andThen a (written (formOf network))) e))
 
 module _ (network X Y Z : List ℕ) (r : Refined network X Y Z) where
   abbrev N : HouseNetwork
   N = networkOf network
 
-  n : networkRefusal network ≡ fine
+  n : SoundRecord network
   n = cuts-network network Z (r .cuts)
 
   -- the third sheet's cut, by the fragment
-  third-said : (k : ℕ) (out : List ℕ) → Roomy out → cutInto network Z k out ≡ andThen (cut house1 N (sheetOf Z) k) written
+  third-said : (k : ℕ) (out : List ℕ) → Roomy (formOf network) out → cutInto network Z k out ≡ andThen (cut house1 N (sheetOf Z) k) (written (formOf network))
   third-said k out roomy = into-fragment network Z k out (r .bytes .0) roomy
-      ∙ ap (λ (a : Answer HouseNetwork). andThen a written) (cut-said network Z k n (cuts-sheet network Z (r .cuts)))
+      ∙ ap (λ (a : Answer HouseNetwork). andThen a (written (formOf network))) (cut-said network Z k n (cuts-sheet network Z (r .cuts)))
 
-  sound : Sound (bounds version1) N
+  sound : Sound (bounds (formOf network)) N
   sound = cuts-sound network Z (r .cuts) (r .bytes .0)
 
   cuts : Cuts house1 N (sheetOf Z)
@@ -111,35 +115,35 @@ module _ (network X Y Z : List ℕ) (r : Refined network X Y Z) where
 pub common-refinement : (network X Y Z : List ℕ) → CommonRefinement network X Y Z
 common-refinement network X Y Z r w own o₁ o₂ o₃ roomy₁ roomy₂ roomy₃ = (
   twice-said network X Y (number (sheetOf X) w) (number (sheetOf Y) w) o₁ o₂ (r .bytes .0) (r .bytes .1) roomy₁ roomy₂ m (r .first-formed) (r .second-formed)
-      ∙ ap (λ (a : Answer HouseNetwork). andThen a written) once
+      ∙ ap (λ (a : Answer HouseNetwork). andThen a (written (formOf network))) once
       ∙ sym third,
   twice-said network Y X (number (sheetOf Y) w) (number (sheetOf X) w) o₁ o₂ (r .bytes .0) (r .bytes .2) roomy₁ roomy₂ m (r .second-formed) (r .first-formed)
-      ∙ ap (λ (a : Answer HouseNetwork). andThen a written) (other ∙ once)
+      ∙ ap (λ (a : Answer HouseNetwork). andThen a (written (formOf network))) (other ∙ once)
       ∙ sym third,
   (
-    writeNetwork version1 (fragment (networkOf network) (sheetOf Z) (number (sheetOf Z) w)),
-    third ∙ ap (λ (a : Answer HouseNetwork). andThen a written)
-        (third-given house1 (bounds version1) (networkOf network) (sheetOf X) (sheetOf Y) (sheetOf Z) (sound network X Y Z r) (r .third) (cuts network X Y Z r) w own),
+    writeNetwork (formOf network) (fragment (networkOf network) (sheetOf Z) (number (sheetOf Z) w)),
+    third ∙ ap (λ (a : Answer HouseNetwork). andThen a (written (formOf network)))
+        (third-given house1 (bounds (formOf network)) (networkOf network) (sheetOf X) (sheetOf Y) (sheetOf Z) (sound network X Y Z r) (r .third) (cuts network X Y Z r) w own),
   ),
 )
   where
-    m : networkRefusal network ≡ fine
+    m : SoundRecord network
     m = n network X Y Z r
 
-    third : cutInto network Z (number (sheetOf Z) w) o₃ ≡ andThen (cut house1 (networkOf network) (sheetOf Z) (number (sheetOf Z) w)) written
+    third : cutInto network Z (number (sheetOf Z) w) o₃ ≡ andThen (cut house1 (networkOf network) (sheetOf Z) (number (sheetOf Z) w)) (written (formOf network))
     third = third-said network X Y Z r (number (sheetOf Z) w) o₃ roomy₃
 
     once : twice house1 (networkOf network) (sheetOf X) (number (sheetOf X) w) (sheetOf Y) (number (sheetOf Y) w) ≡ cut house1 (networkOf network) (sheetOf Z) (number (sheetOf Z) w)
-    once = first-then-second house1 (bounds version1) (networkOf network) (sheetOf X) (sheetOf Y) (sheetOf Z) (sound network X Y Z r) (r .third) (cuts network X Y Z r) w own
+    once = first-then-second house1 (bounds (formOf network)) (networkOf network) (sheetOf X) (sheetOf Y) (sheetOf Z) (sound network X Y Z r) (r .third) (cuts network X Y Z r) w own
 
     other : twice house1 (networkOf network) (sheetOf Y) (number (sheetOf Y) w) (sheetOf X) (number (sheetOf X) w)
         ≡ twice house1 (networkOf network) (sheetOf X) (number (sheetOf X) w) (sheetOf Y) (number (sheetOf Y) w)
-    other = second-then-first house1 (bounds version1) (networkOf network) (sheetOf X) (sheetOf Y) (sheetOf Z) (sound network X Y Z r) (r .third) (cuts network X Y Z r) w own
+    other = second-then-first house1 (bounds (formOf network)) (networkOf network) (sheetOf X) (sheetOf Y) (sheetOf Z) (sound network X Y Z r) (r .third) (cuts network X Y Z r) w own
 
 pub apart-refuses : (network X Y Z : List ℕ) → ApartRefused network X Y Z
 apart-refuses network X Y Z r x y apart o₁ o₂ roomy₁ roomy₂ =
-    let a = apart-refused house1 (bounds version1) (networkOf network) (sheetOf X) (sheetOf Y) (sheetOf Z) (sound network X Y Z r) (r .third) (cuts network X Y Z r) x y apart in (
+    let a = apart-refused house1 (bounds (formOf network)) (networkOf network) (sheetOf X) (sheetOf Y) (sheetOf Z) (sound network X Y Z r) (r .third) (cuts network X Y Z r) x y apart in (
       a .0,
       twice-said network X Y x y o₁ o₂ (r .bytes .0) (r .bytes .1) roomy₁ roomy₂ (n network X Y Z r) (r .first-formed) (r .second-formed)
-          ∙ ap (λ (b : Answer HouseNetwork). andThen b written) (a .1),
+          ∙ ap (λ (b : Answer HouseNetwork). andThen b (written (formOf network))) (a .1),
     )

@@ -2,8 +2,9 @@
 use mathlib.Core.Path.{sym, _∙_}
 use mathlib.Core.List.{List}
 use Prim.Native.Nat.{ℕ}
-use Rattle.records.specs.Cases as cases
-use Rattle.records.specs.Numbers.{Numbers}
+use Rattle.layout.proofs.Cases as cases
+use Rattle.lists.specs.Answer.{Answer}
+use Rattle.layout.specs.declared.Form.{Form}
 use Rattle.judging.proofs.Answers as judge
 use Rattle.judging.specs.Judging.{judgeRecords}
 use Rattle.cutting.proofs.Answers as cut
@@ -19,5 +20,5 @@ one-verdict network list = judge.one-verdict (judgeRecords network list)
 pub one-cut : (network sheet : List ℕ) (k room : ℕ) → OneCut network sheet k room
 one-cut network sheet k room = cut.one-cut (cutRecords network sheet k room)
 
-pub one-check : (refusal : Numbers) → OneCheck refusal
+pub one-check : (answer : Answer Form) → OneCheck answer
 one-check = cases.one-check

@@ -9,29 +9,31 @@ use Rattle.lists.specs.Rising.{least, place}
 use Rattle.lists.specs.Stride.{at}
 use Rattle.numbers.specs.BigEndian.{u16At, u32At, u16Bytes, u32Bytes}
 use Rattle.numbers.specs.Decimal.{decimal, places}
-use Rattle.routes.specs.Carry.{carried, lacks, barred, dear, newTags, crossed}
+use Rattle.routes.specs.Carry.{highest, carried, lacks, barred, dear, newTags, crossed}
 use Rattle.routes.specs.Demand.{meets}
-use Rattle.routes.specs.Form.{zeros, fieldsAt, fieldsBytes, routeAt, routeBytes, routeFormed, policyAt, policyBytes, policyFormed}
+use Rattle.numbers.specs.Zeros.{zeros}
+use Rattle.routes.specs.Form.{fieldsAt, fieldsBytes, routeAt, routeBytes, routeFormed, policyAt, policyBytes, policyFormed}
 use Rattle.routes.specs.Order.{beats, same}
 use Rattle.routes.specs.declared.Policy.{Policy}
 use Rattle.routes.specs.declared.Route.{Route}
 use Rattle.routes.specs.declared.Route.the-variants.{None, Held}
-use Rattle.networks.specs.Answer.{Answer, given, refused}
+use Rattle.lists.specs.Answer.{Answer, given, refused}
 use Rattle.networks.specs.Cut.{leaves, feeds, fragmentOf, cut}
 use Rattle.networks.specs.Judge.{Verdict, pass, found, fault, verdictFrom, judge}
 use Rattle.networks.specs.Sheets.{number, note, listed}
 use Rattle.networks.specs.Solution.{due, mapping}
 use Rattle.records.specs.Edge.{edgeTo, edgeFrom, edgeKey, boxed, owned, endsFormed, edgeFormed, edgeOk, leftBy, inputOk}
-use Rattle.records.specs.Entries.{entryOffset, entryId, fragmentFormed, entryFormed, entryOk, entriesRefusal}
-use Rattle.records.specs.Form.{nodeWidth, entryWidth}
-use Rattle.records.specs.Layout.{policyOffset, nodeOffset, edgeOffset}
-use Rattle.records.specs.Network.{policyOk, manyParts, networkRefusal}
-use Rattle.records.specs.Node.{kindFormed, promiseFormed, demandFormed, nodeFormed, nodeId, nodeOk, isOwn, ownless, rowOf}
+use Rattle.layout.specs.Layout.{entryOffset, policyOffset, nodeOffset, edgeOffset}
+use Rattle.entries.specs.Entries.{entryId, fragmentFormed, entryFormed, entryOk, entriesRefusal}
+use Rattle.layout.specs.Form.{nodeWidth, entryWidth, formOf, versioned}
+use Rattle.nodes.specs.Policy.{policyOk}
+use Rattle.records.specs.Network.{manyParts, networkRefusal}
+use Rattle.nodes.specs.Node.{kindFormed, promiseFormed, demandFormed, nodeFormed, nodeId, nodeOk, isOwn, ownless, rowOf}
 use Rattle.reading.specs.Parts.{demandAt, demandBytes, promiseAt, promiseBytes, boxAt, boxBytes, wireAt, wireBytes, sheetEntryAt, sheetEntryBytes, listEntryAt, listEntryBytes}
 use Rattle.reading.specs.Whole.{readNetwork, writeNetwork, readSheet, writeSheet, readList, writeList}
-use Rattle.lines.specs.Line.{text, line, routeWords, passLine, refusedLine, foundLine}
-use Rattle.judging.specs.Judging.{judgeAt, judgeRecords}
-use Rattle.cutting.specs.Cutting.{cutSaid, cutNetwork, cutRecords}
+use Rattle.lines.specs.Line.{text, spaced, line, routeWords, passLine, refusedLine, foundLine}
+use Rattle.judging.specs.Judging.{judgeRecords}
+use Rattle.cutting.specs.Cutting.{cutNetwork, cutRecords}
 use Rattle.promises.specs.BenchNetworks.{held, adds, masks, chainRecord, twoAnswers, listing, splitting}
 
 pub record Example : Type 0 where
@@ -48,7 +50,7 @@ shown (Held f) = f .preference ∷ f .cost ∷ f .origin ∷ f .tags ∷ []
 
 -- a route over a wire that may give costs up to 65,535
 abbrev over : Policy → Route → List ℕ
-over p r = shown (carried 65535 p r)
+over p r = shown (carried highest p r)
 
 -- the line that the judge prints
 abbrev lineOf : Answer (Verdict Route) → List ℕ
@@ -98,5 +100,5 @@ bench =
 
 -- every answer is the expected one
 pub bench-holds : map (λ (x : Example). x .answer) bench ≡ map (λ (x : Example). x .expected) bench
-unfolding beats carried lacks barred dear newTags crossed same meets zeros fieldsAt fieldsBytes routeAt routeBytes routeFormed policyAt policyBytes policyFormed firstBad every least place at u16At u32At u16Bytes u32Bytes decimal places leaves feeds fragmentOf cut fault verdictFrom judge number note listed due mapping edgeTo edgeFrom edgeKey boxed owned endsFormed edgeFormed edgeOk leftBy inputOk entryOffset entryId fragmentFormed entryFormed entryOk entriesRefusal nodeWidth entryWidth policyOffset nodeOffset edgeOffset policyOk manyParts networkRefusal kindFormed promiseFormed demandFormed nodeFormed nodeId nodeOk isOwn ownless rowOf demandAt demandBytes promiseAt promiseBytes boxAt boxBytes wireAt wireBytes sheetEntryAt sheetEntryBytes listEntryAt listEntryBytes readNetwork writeNetwork readSheet writeSheet readList writeList line routeWords passLine foundLine judgeAt judgeRecords cutSaid cutNetwork cutRecords filterMap
+unfolding beats carried lacks barred dear newTags crossed same meets zeros fieldsAt fieldsBytes routeAt routeBytes routeFormed policyAt policyBytes policyFormed firstBad every least place at u16At u32At u16Bytes u32Bytes decimal places leaves feeds fragmentOf cut fault verdictFrom judge number note listed due mapping edgeTo edgeFrom edgeKey boxed owned endsFormed edgeFormed edgeOk leftBy inputOk entryOffset entryId fragmentFormed entryFormed entryOk entriesRefusal nodeWidth entryWidth policyOffset nodeOffset edgeOffset policyOk manyParts networkRefusal formOf versioned kindFormed promiseFormed demandFormed nodeFormed nodeId nodeOk isOwn ownless rowOf demandAt demandBytes promiseAt promiseBytes boxAt boxBytes wireAt wireBytes sheetEntryAt sheetEntryBytes listEntryAt listEntryBytes readNetwork writeNetwork readSheet writeSheet readList writeList line spaced routeWords passLine foundLine judgeRecords cutNetwork cutRecords filterMap
 bench-holds = refl

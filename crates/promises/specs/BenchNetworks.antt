@@ -13,7 +13,7 @@ use Rattle.routes.specs.declared.Policy.{Policy}
 use Rattle.routes.specs.declared.Route.{Route}
 use Rattle.routes.specs.declared.Route.the-variants.{None, Held}
 use Rattle.networks.specs.Network.{Box, own, Wire}
-use Rattle.records.specs.Form.{version1}
+use Rattle.layout.specs.Form.{version1}
 use Rattle.reading.specs.Whole.{writeNetwork, writeList, writeSheet}
 
 -- a route (preference, cost, origin, tags)

@@ -1,5 +1,4 @@
 -- The words of the statements.
---     networkOf, sheetOf, listOf     what the bytes of a record say
 --     house1                         the house's routes, with costs up to 65,535
 --     Passes                         the judge's answer on two records is a pass
 --     cutInto                        the record that a cut leaves in a lent buffer
@@ -10,26 +9,17 @@ use mathlib.Core.Logic.{_⊎_}
 use Prim.Native.Nat.{ℕ, _≤_, _<_}
 use lib.ListN.{length, take}
 use Rattle.networks.specs.Algebra.{Algebra}
-use Rattle.networks.specs.Answer.{Answer, given, refused, andThen}
-use Rattle.networks.specs.House.{house}
+use Rattle.lists.specs.Answer.{Answer, given, refused, andThen}
+use Rattle.reading.specs.House.{house}
 use Rattle.networks.specs.Judge.{pass}
-use Rattle.records.specs.Form.{version1}
+use Rattle.layout.specs.declared.Form.{Form}
 use Rattle.reading.specs.Largest.{largestNetwork}
-use Rattle.reading.specs.Whole.{HouseNetwork, HouseSheet, HouseList, readNetwork, readSheet, readList}
 use Rattle.judging.specs.Judging.{judgeRecords}
+use Rattle.routes.specs.Carry.{highest}
 use Rattle.cutting.specs.Cutting.{cutRecords, cutBuffer}
 
-abbrev pub networkOf : List ℕ → HouseNetwork
-networkOf = readNetwork version1
-
-abbrev pub sheetOf : List ℕ → HouseSheet
-sheetOf = readSheet version1
-
-abbrev pub listOf : List ℕ → HouseList
-listOf = readList version1
-
 abbrev pub house1 : Algebra
-house1 = house 65535
+house1 = house highest
 
 abbrev pub Passes : List ℕ → List ℕ → Type 0
 Passes network list = (count : ℕ) × (judgeRecords network list ≡ given (pass count))
@@ -38,8 +28,8 @@ Passes network list = (count : ℕ) × (judgeRecords network list ≡ given (pas
 unfoldable pub cutInto : List ℕ → List ℕ → ℕ → List ℕ → Answer (List ℕ)
 cutInto network sheet k out = andThen (cutRecords network sheet k (length out)) (λ (n : ℕ). given (take n (cutBuffer network sheet k out)))
 
-abbrev pub Roomy : List ℕ → Type 0
-Roomy out = largestNetwork version1 ≤ length out
+abbrev pub Roomy : Form → List ℕ → Type 0
+Roomy f out = largestNetwork f ≤ length out
 
 -- Cutting by the sheet can meet no refusal but 18 and 20, whatever fragment is asked, by a byte, and whatever the room.
 abbrev pub SheetCuts : List ℕ → List ℕ → Type 0

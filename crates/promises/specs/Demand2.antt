@@ -1,33 +1,33 @@
 -- Demand 2: what passes is exactly what should pass, and what is cut is exactly the fragment.
 -- The definitions that are named stand in networks/specs, by document 000's equations and document 01's words.
 use mathlib.Core.Path.{_≡_}
-use mathlib.Core.Bool.{Bool, true, false}
+use mathlib.Core.Bool.{true}
 use mathlib.Core.List.{List, _++_}
 use mathlib.Core.Logic.{_↔_}
 use mathlib.Core.Option.{none, some}
 use Prim.Native.Nat.{ℕ, _≤_, _<_}
 use lib.ListN.{length, drop}
 use Rattle.lists.specs.All.{All}
-use Rattle.lists.specs.Codec.{Bytes}
+use Rattle.lists.specs.Bytes.{Bytes}
 use Rattle.routes.specs.declared.Demand.{Demand}
 use Rattle.routes.specs.declared.Route.{Route}
-use Rattle.networks.specs.Answer.{given, refused, LowestOwn, Entered}
+use Rattle.lists.specs.Answer.{given, refused, NoneApplies}
+use Rattle.networks.specs.Lowest.{LowestOwn, Entered}
 use Rattle.networks.specs.Cut.{fragment}
 use Rattle.networks.specs.Judge.{pass, found, fault, upTo}
 use Rattle.networks.specs.Network.{Own, own, ownBoxes, box, owns}
 use Rattle.networks.specs.Paper.{AgreesWithPaper}
 use Rattle.networks.specs.Sheets.{number, listed}
 use Rattle.networks.specs.Solution.{mapping, Solution, Demands}
-use Rattle.records.specs.Entries.{listRefusal}
-use Rattle.records.specs.Network.{networkRefusal}
-use Rattle.records.specs.Form.{version1}
-use Rattle.records.specs.Numbers.{Numbers, fine}
+use Rattle.entries.specs.Entries.{WellFormed}
+use Rattle.records.specs.Network.{SoundRecord}
+use Rattle.layout.specs.Form.{formOf, listLead}
 use Rattle.reading.specs.Largest.{largestNetwork}
-use Rattle.reading.specs.Whole.{HouseNetwork, HouseList}
+use Rattle.reading.specs.Whole.{HouseNetwork, HouseList, networkOf, sheetOf, listOf}
 use Rattle.judging.specs.Judging.{judgeRecords}
 use Rattle.cutting.specs.Cutting.{cutRecords, cutBuffer}
-use Rattle.promises.specs.Calls.{networkOf, sheetOf, listOf, house1, Passes, SheetCuts}
-use Rattle.promises.specs.Demand1.{cuttingRows, fragmentRecord}
+use Rattle.promises.specs.Calls.{house1, Passes, SheetCuts}
+use Rattle.promises.specs.Demand1.{cuttingTable, fragmentRecord}
 
 module _ (network list : List ℕ) where
   abbrev N : HouseNetwork
@@ -39,7 +39,7 @@ module _ (network list : List ℕ) where
   -- A proposal passes exactly where both records are in order, every own box has an entry, equations 6 to 8 hold of what it says, and
   -- every demand is met.
   abbrev pub PassesExactly : Type 0
-  PassesExactly = Bytes network → Passes network list ↔ ((networkRefusal network ≡ fine) × (listRefusal list ≡ fine)
+  PassesExactly = Bytes network → Passes network list ↔ (SoundRecord network × WellFormed listLead list
       × Entered N (listed L) × Solution house1 N (mapping house1 N L) × Demands house1 N (mapping house1 N L))
 
   -- On a pass all own boxes are judged.
@@ -54,12 +54,8 @@ module _ (network list : List ℕ) where
 
   -- A box without an entry is never judged: the call is refused with 17 and the lowest such box.
   abbrev pub EntryAsked : Type 0
-  EntryAsked = Bytes network → networkRefusal network ≡ fine → listRefusal list ≡ fine → (w : ℕ) → owns N w ≡ true → listed L w ≡ none
+  EntryAsked = Bytes network → SoundRecord network → WellFormed listLead list → (w : ℕ) → owns N w ≡ true → listed L w ≡ none
       → (place : ℕ) × (judgeRecords network list ≡ refused 17 place) × LowestOwn N (λ (b : Own Route Demand). listed L (b .id) ≡ none) place
-
--- no row of a table applies
-abbrev pub NoneApplies : List (Bool × Numbers) → Type 0
-NoneApplies rows = All (λ (r : Bool × Numbers). r .0 ≡ false) rows
 
 module _ (network sheet : List ℕ) (k : ℕ) where
   abbrev F : List ℕ
@@ -68,15 +64,15 @@ module _ (network sheet : List ℕ) (k : ℕ) where
   -- Where none of 1 to 19 applies, a buffer with room gets the fragment's record, with the bytes behind it as they were, and the answer is
   -- its length. A shorter one stays as it was, and the answer is 20 with the length needed.
   abbrev pub CutsFragment : List ℕ → Type 0
-  CutsFragment out = NoneApplies (cuttingRows network sheet k)
+  CutsFragment out = NoneApplies (cuttingTable network sheet k {A = ℕ})
       → (length F ≤ length out → (cutRecords network sheet k (length out) ≡ given (length F)) × (cutBuffer network sheet k out ≡ F ++ drop (length F) out))
       × (length out < length F → (cutRecords network sheet k (length out) ≡ refused 20 (length F)) × (cutBuffer network sheet k out ≡ out))
 
   -- The record is a sound one that says the fragment, so that it can be judged and cut again; it is no longer than the network's.
   abbrev pub RecordSound : Type 0
-  RecordSound = Bytes network → Bytes sheet → NoneApplies (cuttingRows network sheet k)
-      → (networkRefusal F ≡ fine) × Bytes F × (networkOf F ≡ fragment (networkOf network) (sheetOf sheet) k)
-      × (length F ≤ length network) × (length F ≤ largestNetwork version1)
+  RecordSound = Bytes network → Bytes sheet → NoneApplies (cuttingTable network sheet k {A = ℕ})
+      → SoundRecord F × Bytes F × (networkOf F ≡ fragment (networkOf network) (sheetOf sheet) k)
+      × (length F ≤ length network) × (length F ≤ largestNetwork (formOf network))
 
   -- The fragment is document 000's, point by point, less the edges that lead into inputs.
   abbrev pub PaperFragment : Type 0
@@ -84,5 +80,5 @@ module _ (network sheet : List ℕ) (k : ℕ) where
 
   -- With all own boxes in one fragment, it is the network's own bytes.
   abbrev pub OneFragment : Type 0
-  OneFragment = Bytes network → networkRefusal network ≡ fine
+  OneFragment = Bytes network → SoundRecord network
       → All (λ (b : Own Route Demand). number (sheetOf sheet) (b .id) ≡ k) (ownBoxes (networkOf network)) → F ≡ network

@@ -4,21 +4,23 @@ use mathlib.Core.Bool.{true}
 use mathlib.Core.List.{List}
 use mathlib.Core.Logic.{_↔_}
 use Prim.Native.Nat.{ℕ, _<_}
-use Rattle.lists.specs.Codec.{Bytes}
-use Rattle.networks.specs.Answer.{Answer, given, refused, andThen, Entered}
+use Rattle.lists.specs.Bytes.{Bytes}
+use Rattle.lists.specs.Answer.{Answer, given, refused, andThen}
+use Rattle.networks.specs.Lowest.{Entered}
 use Rattle.networks.specs.Cut.{Agrees, Third}
 use Rattle.networks.specs.Network.{owns}
 use Rattle.networks.specs.Sheets.{number, listed}
-use Rattle.records.specs.Entries.{listRefusal, sheetRefusal}
-use Rattle.records.specs.Numbers.{fine}
-use Rattle.promises.specs.Calls.{networkOf, sheetOf, listOf, Passes, cutInto, Roomy, SheetCuts}
+use Rattle.layout.specs.Form.{formOf, listLead, sheetLead}
+use Rattle.entries.specs.Entries.{WellFormed}
+use Rattle.reading.specs.Whole.{networkOf, sheetOf, listOf}
+use Rattle.promises.specs.Calls.{Passes, cutInto, Roomy, SheetCuts}
 
 -- For a sound network, a well-formed list with an entry for every own box, and a sheet that cuts the network (so that neither of those two
 -- records is refused): the list passes in every fragment that the cutter gives exactly where it passes in the whole and has the note at each
 -- box that a cut wire leaves.
 abbrev pub FragmentsAndWhole : List ℕ → List ℕ → List ℕ → Type 0
-FragmentsAndWhole network sheet list = Bytes network → Bytes sheet → SheetCuts network sheet → listRefusal list ≡ fine → Entered (networkOf network) (listed (listOf list))
-    → ((k : ℕ) (out F : List ℕ) → k < 256 → Roomy out → cutInto network sheet k out ≡ given F → Passes F list)
+FragmentsAndWhole network sheet list = Bytes network → Bytes sheet → SheetCuts network sheet → WellFormed listLead list → Entered (networkOf network) (listed (listOf list))
+    → ((k : ℕ) (out F : List ℕ) → k < 256 → Roomy (formOf network) out → cutInto network sheet k out ≡ given F → Passes F list)
     ↔ (Passes network list × Agrees (networkOf network) (sheetOf sheet) (listed (listOf list)))
 
 -- one cut upon another's record
@@ -29,8 +31,8 @@ cutTwice network first x out second y out′ = andThen (cutInto network first x 
 -- network.
 pub record Refined (network X Y Z : List ℕ) : Type 0 where
   pub bytes : Bytes network × Bytes X × Bytes Y × Bytes Z
-  pub first-formed : sheetRefusal X ≡ fine
-  pub second-formed : sheetRefusal Y ≡ fine
+  pub first-formed : WellFormed sheetLead X
+  pub second-formed : WellFormed sheetLead Y
   pub third : Third (sheetOf X) (sheetOf Y) (sheetOf Z)
   pub cuts : SheetCuts network Z
 
@@ -38,7 +40,7 @@ pub record Refined (network X Y Z : List ℕ) : Type 0 where
 -- bytes that cutting by the third leaves; and these are a record, not a refusal.
 abbrev pub CommonRefinement : List ℕ → List ℕ → List ℕ → List ℕ → Type 0
 CommonRefinement network X Y Z = Refined network X Y Z → (w : ℕ) → owns (networkOf network) w ≡ true
-    → (o₁ o₂ o₃ : List ℕ) → Roomy o₁ → Roomy o₂ → Roomy o₃
+    → (o₁ o₂ o₃ : List ℕ) → Roomy (formOf network) o₁ → Roomy (formOf network) o₂ → Roomy (formOf network) o₃
     → (cutTwice network X (number (sheetOf X) w) o₁ Y (number (sheetOf Y) w) o₂ ≡ cutInto network Z (number (sheetOf Z) w) o₃)
     × (cutTwice network Y (number (sheetOf Y) w) o₁ X (number (sheetOf X) w) o₂ ≡ cutInto network Z (number (sheetOf Z) w) o₃)
     × ((F : List ℕ) × (cutInto network Z (number (sheetOf Z) w) o₃ ≡ given F))
@@ -47,4 +49,4 @@ CommonRefinement network X Y Z = Refined network X Y Z → (w : ℕ) → owns (n
 abbrev pub ApartRefused : List ℕ → List ℕ → List ℕ → List ℕ → Type 0
 ApartRefused network X Y Z = Refined network X Y Z → (x y : ℕ)
     → ((w : ℕ) → owns (networkOf network) w ≡ true → number (sheetOf X) w ≡ x → number (sheetOf Y) w ≡ y → ⊥)
-    → (o₁ o₂ : List ℕ) → Roomy o₁ → Roomy o₂ → (place : ℕ) × (cutTwice network X x o₁ Y y o₂ ≡ refused 18 place)
+    → (o₁ o₂ : List ℕ) → Roomy (formOf network) o₁ → Roomy (formOf network) o₂ → (place : ℕ) × (cutTwice network X x o₁ Y y o₂ ≡ refused 18 place)

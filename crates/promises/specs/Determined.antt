@@ -2,8 +2,10 @@
 use mathlib.Core.Path.{_≡_}
 use mathlib.Core.List.{List}
 use Prim.Native.Nat.{ℕ}
-use Rattle.records.specs.Numbers.{Numbers, checkNumbers}
-use Rattle.records.specs.declared.Check.{Check}
+use Rattle.lists.specs.Answer.{Answer}
+use Rattle.layout.specs.declared.Form.{Form}
+use Rattle.layout.specs.Refusals.{checkAnswer}
+use Rattle.layout.specs.declared.Check.{Check}
 use Rattle.judging.specs.Answers as judge
 use Rattle.judging.specs.Judging.{judgeRecords}
 use Rattle.judging.specs.declared.Verdict.{Verdict}
@@ -25,5 +27,5 @@ abbrev pub OneCut : List ℕ → List ℕ → ℕ → ℕ → Type 0
 OneCut network sheet k room = (first second : CutAnswer)
     → cut.answerOf first ≡ cutRecords network sheet k room → cut.answerOf second ≡ cutRecords network sheet k room → first ≡ second
 
-abbrev pub OneCheck : Numbers → Type 0
-OneCheck refusal = (first second : Check) → checkNumbers first ≡ refusal → checkNumbers second ≡ refusal → first ≡ second
+abbrev pub OneCheck : Answer Form → Type 0
+OneCheck refusal = (first second : Check) → checkAnswer first ≡ refusal → checkAnswer second ≡ refusal → first ≡ second

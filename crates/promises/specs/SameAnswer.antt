@@ -7,14 +7,14 @@ use Rattle.routes.specs.declared.Demand.{Demand}
 use Rattle.routes.specs.declared.Route.{Route}
 use Rattle.networks.specs.Network.{Own, ownBoxes}
 use Rattle.networks.specs.Sheets.{listed}
-use Rattle.records.specs.Entries.{listRefusal}
-use Rattle.records.specs.Numbers.{fine}
+use Rattle.layout.specs.Form.{listLead}
+use Rattle.entries.specs.Entries.{WellFormed}
 use Rattle.judging.specs.Judging.{judgeRecords}
-use Rattle.promises.specs.Calls.{networkOf, listOf}
+use Rattle.reading.specs.Whole.{networkOf, listOf}
 
 -- Two well-formed lists that agree on a network's own boxes get the same answer from it: verdict, finding, count, refusal. A fragment is
 -- a network like any other here. To agree on a box is to list the same route for it, or none of the two to have an entry.
 abbrev pub SameAnswer : List ℕ → List ℕ → List ℕ → Type 0
-SameAnswer network list other = listRefusal list ≡ fine → listRefusal other ≡ fine
+SameAnswer network list other = WellFormed listLead list → WellFormed listLead other
     → All (λ (b : Own Route Demand). listed (listOf list) (b .id) ≡ listed (listOf other) (b .id)) (ownBoxes (networkOf network))
     → judgeRecords network list ≡ judgeRecords network other

@@ -3,24 +3,25 @@
 use mathlib.Core.Path.{_≡_, refl, sym, ap}
 use mathlib.Core.Bool.{Bool, true, false, cond, _&&_, _||_}
 use mathlib.Core.List.{List}
-use mathlib.Core.Option.{Option, none, some}
+use mathlib.Core.Option.{Option, none, some, Option·none-ne-some}
 use Prim.Native.Nat.{ℕ, _+_, _≤_, _<_}
 use native.Mathlib.Omega.{arith}
 use lib.Dec.{eqb}
 use lib.ListN.{getD}
 use borrow.Author.Tests.{eqb-true}
-use Rattle.lists.specs.Filter.{none-some}
-use Rattle.lists.specs.Codec.{Codec, byte, pair, named, restated, Bytes}
-use Rattle.lists.specs.Test.{and-l, and-r}
+use Rattle.lists.proofs.Codec.{Codec, byte, pair, named, restated}
+use Rattle.lists.specs.Bytes.{Bytes}
+use Rattle.lists.proofs.Test.{and-l, and-r}
 use Rattle.numbers.specs.BigEndian.{u16At}
 use Rattle.numbers.proofs.Codecs.{u16, u16-below}
-use Rattle.routes.specs.Form.{zeros, routeAt, routeFormed}
+use Rattle.numbers.specs.Zeros.{zeros}
+use Rattle.routes.specs.Form.{routeAt, routeFormed}
 use Rattle.routes.proofs.RouteCodec.{route, RouteFits, route-read-fits}
 use Rattle.routes.specs.declared.Demand.{Demand}
 use Rattle.routes.specs.declared.Demand.the-variants.{Nothing, Hold, HoldNone}
 use Rattle.routes.specs.declared.Route.{Route}
 use Rattle.networks.specs.Network.{Box, own, input}
-use Rattle.records.specs.Node.{kindFormed, promiseFormed, demandFormed, nodeFormed}
+use Rattle.nodes.specs.Node.{kindFormed, promiseFormed, demandFormed, nodeFormed}
 use Rattle.reading.specs.Parts.{demandAt, promiseAt, boxAt, boxBytes}
 use Rattle.reading.proofs.DemandCodec.{DemandFits, PromiseFits, demandTest, promiseTest, demand, promise, demand-read-fits, promise-read-fits}
 
@@ -141,7 +142,7 @@ module _ (w : ℕ) (enough : 9 ≤ w) where
     where
       go : (t : Bool) → cond t none (some (routeAt w b (o + 1))) ≡ none → t ≡ true
       go true e = refl
-      go false e = absurd (none-some (sym e))
+      go false e = absurd (Option·none-ne-some _ (sym e))
 
   no-demand : (b : List ℕ) (o : ℕ) → demandAt b o ≡ Nothing → eqb (getD b o 0) 0 ≡ true
   unfolding demandAt

@@ -9,11 +9,13 @@ use native.Mathlib.Omega.{arith}
 use lib.Dec.{eqb}
 use lib.ListN.{getD}
 use borrow.Author.Tests.{eqb-true}
-use Rattle.lists.specs.Codec.{Codec, byte, pair, named, restated, Bytes}
-use Rattle.lists.specs.Test.{and-l, and-r}
+use Rattle.lists.proofs.Codec.{Codec, byte, pair, named, restated}
+use Rattle.lists.specs.Bytes.{Bytes}
+use Rattle.lists.proofs.Test.{and-l, and-r}
 use Rattle.numbers.specs.BigEndian.{u16At, u16Bytes}
 use Rattle.numbers.proofs.Codecs.{u16, u16-below}
-use Rattle.routes.specs.Form.{zeros, routeAt, routeFormed}
+use Rattle.numbers.specs.Zeros.{zeros}
+use Rattle.routes.specs.Form.{routeAt, routeFormed}
 use Rattle.routes.proofs.RouteCodec.{route, RouteFits, route-read-fits, all-zeros, zero-bytes, zeros-number, zeros-route, none-zeros}
 use Rattle.routes.specs.declared.Demand.{Demand}
 use Rattle.routes.specs.declared.Demand.the-variants.{Nothing, Hold, HoldNone}

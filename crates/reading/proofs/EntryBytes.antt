@@ -9,21 +9,26 @@ use lib.Dec.{leb}
 use lib.ListN.{length, drop, length-drop}
 use lib.Seq.{take-all}
 use borrow.Author.Tests.{leb-true, le-leb}
-use Rattle.lists.specs.All.{All, all-append}
-use Rattle.lists.specs.Codec.{Codec, Bytes, rows-in, rows-forth, rows-small, rows-made, small-bytes}
-use Rattle.lists.specs.Rising.{least, least-ext}
-use Rattle.lists.specs.Rows.{rows, laidRows, length-rows, length-laidRows, all-rows, rows-all}
+use Rattle.lists.specs.All.{All}
+use Rattle.lists.proofs.All.{all-append}
+use Rattle.lists.proofs.Codec.{Codec, rows-in, rows-forth, rows-small, rows-made, small-bytes}
+use Rattle.lists.specs.Bytes.{Bytes}
+use Rattle.lists.specs.Rising.{least}
+use Rattle.lists.proofs.Rising.{least-ext}
+use Rattle.lists.specs.Rows.{rows, laidRows}
+use Rattle.lists.proofs.Rows.{length-rows, length-laidRows, all-rows, rows-all}
 use Rattle.lists.specs.Sorted.{Rises}
 use Rattle.lists.specs.Stride.{at}
-use Rattle.lists.specs.Table.{keys, rises-rows, rows-rise}
-use Rattle.lists.specs.Test.{and-l, and-r}
+use Rattle.lists.proofs.Table.{keys, rises-rows, rows-rise}
+use Rattle.lists.proofs.Test.{and-l, and-r}
 use Rattle.numbers.specs.BigEndian.{u16At, u32At, u16Bytes, u32Bytes}
-use Rattle.records.specs.Form.{Usable, entryWidth}
-use Rattle.records.specs.Entries.{entryCount, entryOffset, entryId, entryOk}
-use Rattle.records.specs.Fine.{EntriesFine}
-use Rattle.records.specs.declared.Form.{Form}
+use Rattle.layout.specs.Form.{Usable, entryWidth}
+use Rattle.layout.specs.Layout.{entryCount, entryOffset}
+use Rattle.entries.specs.Entries.{entryId, entryOk, EntriesFine}
+use Rattle.layout.specs.declared.Form.{Form}
 use Rattle.reading.specs.Whole.{recordOf}
 use Rattle.reading.proofs.Joins.{u16-on, record-on}
+use Rattle.layout.proofs.OneForm.{version-test}
 
 -- a kind of entry: its codec, its id, and the test of its bytes beside that of its id
 pub record Kind (A : Type 0) (f : Form) (lead : ℕ) : Type 1 where
@@ -43,7 +48,7 @@ module _ {A : Type 0} {f : Form} {lead : ℕ} (usable : Usable f) (few-lead : le
   readEntries b = rows (k .codec .value b) (entryWidth f lead) 7 (entryCount b)
 
   abbrev pub writeEntries : List A → List ℕ
-  writeEntries xs = recordOf (u16Bytes (length xs) ++ laidRows (k .codec .bytes) xs)
+  writeEntries xs = recordOf f (u16Bytes (length xs) ++ laidRows (k .codec .bytes) xs)
 
   -- entries that a record can hold
   pub record Formed (xs : List A) : Type 0 where
@@ -63,7 +68,7 @@ module _ {A : Type 0} {f : Form} {lead : ℕ} (usable : Usable f) (few-lead : le
     said = suc (suc (length entries)) + 1
 
     abbrev head : List ℕ
-    head = said / 65536 / 256 ∷ said / 65536 % 256 ∷ said % 65536 / 256 ∷ said % 65536 % 256 ∷ 1 ∷ length xs / 256 ∷ length xs % 256 ∷ []
+    head = said / 65536 / 256 ∷ said / 65536 % 256 ∷ said % 65536 / 256 ∷ said % 65536 % 256 ∷ f .version ∷ length xs / 256 ∷ length xs % 256 ∷ []
 
     written : W ≡ head ++ entries
     unfolding u32Bytes u16Bytes
@@ -140,7 +145,7 @@ module _ {A : Type 0} {f : Form} {lead : ℕ} (usable : Usable f) (few-lead : le
         let s = said-is in
         let l : length W ≡ 7 + length entries = ap length written ∙ omega arith in
         let end : 7 + entryCount W * entryWidth f lead ≡ length W = rw (n, l, e) refl in
-        record { long = omega arith; version = rw written refl; few = rw n (h .few); said = omega arith; whole = end; entries = entry-ok h }
+        record { long = omega arith; version = version-test f W (rw written refl); few = rw n (h .few); said = omega arith; whole = end; entries = entry-ok h }
 
   -- read and written back
   module _ (b : List ℕ) (small : Bytes b) (fine : EntriesFine f lead b) where
@@ -179,4 +184,4 @@ module _ {A : Type 0} {f : Form} {lead : ℕ} (usable : Usable f) (few-lead : le
         let long = fine .long in
         let rest : u16Bytes (length R) ++ laidRows (k .codec .bytes) R ≡ drop 5 b =
         rw (length-rows (k .codec .value b) (entryWidth f lead) 7 (entryCount b), entries-forth) (u16-on b small 5 (omega arith)) in
-        rw rest (record-on b small (omega arith) (fine .version) (fine .said ∙ fine .whole))
+        rw rest (record-on b small f (omega arith) (fine .version) (fine .said ∙ fine .whole))

@@ -7,13 +7,13 @@ use native.Mathlib.Omega.{arith}
 use lib.Dec.{leb}
 use lib.ListN.{getD}
 use borrow.Author.Tests.{leb-true, le-leb}
-use Rattle.lists.specs.Test.{and-l, and-r}
+use Rattle.lists.proofs.Test.{and-l, and-r}
 use Rattle.routes.specs.Form.{routeFormed}
 use Rattle.routes.specs.declared.Route.{Route}
 use Rattle.networks.specs.Sheets.{SheetEntry, ListEntry}
-use Rattle.records.specs.Form.{Usable, entryWidth, listLead, sheetLead}
-use Rattle.records.specs.Entries.{entryOk, entryFormed, fragmentFormed}
-use Rattle.records.specs.declared.Form.{Form}
+use Rattle.layout.specs.Form.{Usable, entryWidth, listLead, sheetLead}
+use Rattle.entries.specs.Entries.{entryOk, entryFormed, fragmentFormed}
+use Rattle.layout.specs.declared.Form.{Form}
 use Rattle.reading.specs.Parts.{sheetEntryAt, listEntryAt}
 use Rattle.reading.proofs.RowCodecs.{sheet-entry, list-entry}
 use Rattle.reading.proofs.EntryBytes.{Kind}

@@ -4,13 +4,14 @@
 use mathlib.Core.Path.{_≡_, refl, subst}
 use mathlib.Core.Bool.{Bool, true, false, cond}
 use mathlib.Core.List.{List}
-use mathlib.Core.Option.{Option, none, some, Option·map}
+use mathlib.Core.Option.{Option, none, some, Option·map, Option·none-ne-some, Option·some-injective}
 use Prim.Native.Nat.{ℕ}
-use Rattle.lists.specs.All.{All, all-map}
-use Rattle.lists.specs.Codec.{Bytes}
-use Rattle.lists.specs.Filter.{some-inj, none-some, all-filter, all-filterMap}
-use Rattle.lists.specs.Rows.{all-rows}
-use Rattle.lists.specs.Sorted.{find-all}
+use Rattle.lists.specs.All.{All}
+use Rattle.lists.proofs.All.{all-map}
+use Rattle.lists.specs.Bytes.{Bytes}
+use Rattle.lists.proofs.Filter.{all-filter, all-filterMap}
+use Rattle.lists.proofs.Rows.{all-rows}
+use Rattle.lists.proofs.Sorted.{find-all}
 use Rattle.lists.specs.Stride.{at}
 use Rattle.routes.specs.Form.{policyAt}
 use Rattle.routes.proofs.PolicyCodec.{PolicyFits, policy-read-fits}
@@ -18,13 +19,12 @@ use Rattle.routes.specs.declared.Demand.{Demand}
 use Rattle.routes.specs.declared.Route.{Route}
 use Rattle.networks.specs.Network.{Box, own, input}
 use Rattle.networks.specs.Sheets.{SheetEntry, sheetEntry, number, note}
-use Rattle.networks.specs.Cut.{promised, leaves, feeds, promising, assuming, piece, fragmentOf}
-use Rattle.records.specs.Entries.{entryCount}
-use Rattle.records.specs.Fine.{NetworkFine}
-use Rattle.records.specs.Form.{nodeWidth, entryWidth, listLead, sheetLead}
-use Rattle.records.specs.Layout.{nodeCount, edgeCount, policyCount, policyOffset, nodePart, edgePart}
-use Rattle.records.specs.Network.{policyOk}
-use Rattle.records.specs.declared.Form.{Form}
+use Rattle.networks.specs.Cut.{promised, leaves, feeds, promisingOwn, assuming, piece, fragmentOf}
+use Rattle.layout.specs.Layout.{entryCount, nodeCount, edgeCount, policyCount, policyOffset, nodePart, edgePart}
+use Rattle.records.specs.Network.{NetworkFine}
+use Rattle.layout.specs.Form.{nodeWidth, entryWidth, listLead, sheetLead}
+use Rattle.nodes.specs.Policy.{policyOk}
+use Rattle.layout.specs.declared.Form.{Form}
 use Rattle.reading.specs.Parts.{boxAt, wireAt, sheetEntryAt, listEntryAt}
 use Rattle.reading.specs.Whole.{HouseNetwork, HouseSheet, readNetwork, readSheet, readList}
 use Rattle.reading.proofs.BoxCodec.{BoxFits, box-read-fits}
@@ -68,16 +68,16 @@ module _ (N : HouseNetwork) (S : HouseSheet) (fits : NetworkFits N) (noted : All
   piece-fits : (v : Box Route Demand) → BoxFits v → (w : Box Route Demand) → piece N S κ v ≡ some w → BoxFits w
   piece-fits (own v) h w e = go (κ (number S (v .id))) (feeds N S κ (v .id)) (note S (v .id)) (note-fits (v .id)) e
     where
-      go : (s t : Bool) (n : Option Route) → PromiseFits n → cond s (some (own (promising N S v))) (cond t (Option·map (assuming v) n) none) ≡ some w → BoxFits w
-      go true t n k q = subst BoxFits (some-inj q) (h .0, h .1, promised-fits (v .promise) (leaves N S (v .id)) (note S (v .id)) (h .2) (note-fits (v .id)), h .3)
-      go false true (some n) k q = subst BoxFits (some-inj q) (h .0, k)
-      go false true none k q = absurd (none-some q)
-      go false false n k q = absurd (none-some q)
+      go : (s t : Bool) (n : Option Route) → PromiseFits n → cond s (some (own (promisingOwn N S v))) (cond t (Option·map (assuming v) n) none) ≡ some w → BoxFits w
+      go true t n k q = subst BoxFits (Option·some-injective _ _ q) (h .0, h .1, promised-fits (v .promise) (leaves N S (v .id)) (note S (v .id)) (h .2) (note-fits (v .id)), h .3)
+      go false true (some n) k q = subst BoxFits (Option·some-injective _ _ q) (h .0, k)
+      go false true none k q = absurd (Option·none-ne-some _ q)
+      go false false n k q = absurd (Option·none-ne-some _ q)
   piece-fits (input v) h w e = go (feeds N S κ (v .id)) e
     where
       go : (t : Bool) → cond t (some (input v)) none ≡ some w → BoxFits w
-      go true q = subst BoxFits (some-inj q) h
-      go false q = absurd (none-some q)
+      go true q = subst BoxFits (Option·some-injective _ _ q) h
+      go false q = absurd (Option·none-ne-some _ q)
 
   pub fragment-fits : NetworkFits (fragmentOf N S κ)
   unfolding fragmentOf

@@ -6,10 +6,14 @@ use native.Mathlib.Numerals.{add-one}
 use native.Mathlib.Omega.{arith}
 use lib.ListN.{length, getD, take, drop, take-append-drop, length-drop}
 use lib.Seq.{drop-drop, drop-cons}
-use Rattle.lists.specs.Codec.{Bytes}
+use Rattle.lists.specs.Bytes.{Bytes}
 use Rattle.numbers.specs.BigEndian.{u16At, u32At, u16Bytes, u32Bytes}
 use Rattle.reading.specs.Whole.{recordOf}
 use Rattle.numbers.proofs.Codecs.{u16, u32, u32-value, u32-bytes}
+use Rattle.layout.specs.Form.{versioned}
+use Rattle.layout.specs.declared.Form.{Form}
+use mathlib.Core.Bool.{true}
+use Rattle.layout.proofs.OneForm.{version-byte}
 
 module _ (b : List ℕ) where
   -- a piece and what is behind it
@@ -30,10 +34,10 @@ module _ (b : List ℕ) where
         ∙ piece-on o 4
 
     -- a record's length field and version before the rest
-    pub record-on : 5 ≤ length b → getD b 4 0 ≡ 1 → u32At b 0 + 4 ≡ length b → recordOf (drop 5 b) ≡ b
-    record-on long version said =
+    pub record-on : (f : Form) → 5 ≤ length b → versioned f b ≡ true → u32At b 0 + 4 ≡ length b → recordOf f (drop 5 b) ≡ b
+    record-on f long version said =
         let field : length (drop 5 b) + 1 ≡ u32At b 0 = rw length-drop (omega arith) in
         rw field
-        (ap (λ (v : ℕ). u32Bytes (u32At b 0) ++ (v ∷ drop 5 b)) (sym version)
+        (ap (λ (v : ℕ). u32Bytes (u32At b 0) ++ (v ∷ drop 5 b)) (sym (version-byte f b version))
         ∙ ap (_++_ (u32Bytes (u32At b 0))) (byte-on 4 (omega arith))
         ∙ u32-on 0 (omega arith))

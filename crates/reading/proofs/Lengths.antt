@@ -7,8 +7,8 @@ use native.Mathlib.Nat.{mul-le-mul-right}
 use native.Mathlib.Omega.{arith}
 use lib.ListN.{length}
 use Rattle.networks.specs.Sound.{Sound}
-use Rattle.records.specs.Form.{nodeWidth}
-use Rattle.records.specs.declared.Form.{Form}
+use Rattle.layout.specs.Form.{nodeWidth}
+use Rattle.layout.specs.declared.Form.{Form}
 use Rattle.reading.specs.Largest.{largestNetwork}
 use Rattle.reading.specs.Whole.{HouseNetwork, bounds, writeNetwork}
 use Rattle.reading.proofs.NetworkBytes.{length-written, parts-counted}

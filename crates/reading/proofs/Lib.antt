@@ -12,6 +12,7 @@ pub mod WrittenFine
 pub mod EntryBytes
 pub mod EntryKinds
 pub mod Fits
-pub mod Refused
 pub mod Bridges
 pub mod Lowest
+-- The house's routes.
+pub mod HouseRoutes

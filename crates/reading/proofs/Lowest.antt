@@ -9,9 +9,10 @@ use lib.Dec.{ltb}
 use borrow.Author.Tests.{lt-ltb, not-true, not-false}
 use Rattle.lists.specs.First.{firstBad}
 use Rattle.lists.specs.Rows.{rows}
-use Rattle.lists.specs.Stride.{at, at-zero, at-shift}
-use Rattle.lists.specs.Table.{ltb-suc}
-use Rattle.networks.specs.Answer.{lowest}
+use Rattle.lists.specs.Stride.{at}
+use Rattle.lists.proofs.Stride.{at-zero, at-shift}
+use Rattle.lists.proofs.Table.{ltb-suc}
+use Rattle.networks.specs.Lowest.{lowest}
 use Rattle.networks.specs.Network.{Own, Box, own, input, asOwn, boxId}
 
 module _ {R D : Type 0} (test : Own R D → Bool) where

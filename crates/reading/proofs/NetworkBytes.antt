@@ -8,20 +8,22 @@ use lib.Dec.{leb}
 use lib.ListN.{length, drop, length-append, length-drop}
 use lib.Seq.{take-all}
 use Rattle.lists.specs.All.{All}
-use Rattle.lists.specs.Codec.{Bytes, rows-in, rows-forth}
-use Rattle.lists.specs.Rows.{rows, laidRows, length-rows, length-laidRows}
+use Rattle.lists.specs.Bytes.{Bytes}
+use Rattle.lists.proofs.Codec.{rows-in, rows-forth}
+use Rattle.lists.specs.Rows.{rows, laidRows}
+use Rattle.lists.proofs.Rows.{length-rows, length-laidRows}
 use Rattle.lists.specs.Rising.{least}
 use Rattle.lists.specs.Stride.{at}
-use Rattle.lists.specs.Test.{and-r}
+use Rattle.lists.proofs.Test.{and-r}
 use Rattle.numbers.specs.BigEndian.{u16At, u16Bytes, u32Bytes}
 use Rattle.routes.specs.Form.{policyAt, policyBytes}
 use Rattle.routes.proofs.PolicyCodec.{PolicyFits, policy}
-use Rattle.records.specs.Form.{nodeWidth}
-use Rattle.records.specs.Layout.{nodeCount, edgeCount, policyCount, policyOffset, nodePart, nodeOffset, edgePart, edgeOffset}
-use Rattle.records.specs.Node.{nodeId, nodeOk, nodeFormed}
-use Rattle.records.specs.Network.{policyOk}
-use Rattle.records.specs.Fine.{NetworkFine}
-use Rattle.records.specs.declared.Form.{Form}
+use Rattle.layout.specs.Form.{nodeWidth}
+use Rattle.layout.specs.Layout.{nodeCount, edgeCount, policyCount, policyOffset, nodePart, nodeOffset, edgePart, edgeOffset}
+use Rattle.nodes.specs.Node.{nodeId, nodeOk, nodeFormed}
+use Rattle.nodes.specs.Policy.{policyOk}
+use Rattle.records.specs.Network.{NetworkFine}
+use Rattle.layout.specs.declared.Form.{Form}
 use Rattle.reading.specs.Parts.{boxAt, boxBytes, wireAt, wireBytes}
 use Rattle.reading.specs.Whole.{HouseNetwork, readNetwork, writeNetwork}
 use Rattle.reading.proofs.BoxCodec.{BoxFits, box}
@@ -56,7 +58,7 @@ module _ (f : Form) (enough : 9 ≤ f .route) where
     -- the ten bytes before the parts
     abbrev pub head : List ℕ
     head =
-        said / 65536 / 256 ∷ said / 65536 % 256 ∷ said % 65536 / 256 ∷ said % 65536 % 256 ∷ 1 ∷
+        said / 65536 / 256 ∷ said / 65536 % 256 ∷ said % 65536 / 256 ∷ said % 65536 % 256 ∷ f .version ∷
         length (N .boxes) / 256 ∷ length (N .boxes) % 256 ∷ length (N .wires) / 256 ∷ length (N .wires) % 256 ∷ length (N .policies) ∷ []
 
     pub written : W ≡ head ++ (policyPart N ++ (boxPart N ++ wirePart N))
@@ -190,4 +192,4 @@ module _ (f : Form) (enough : 9 ≤ f .route) where
     unfolding writeNetwork
     written-read =
         let long = fine .long in
-        rw rest-forth (record-on b small (omega arith) (fine .version) (fine .said ∙ fine .whole))
+        rw rest-forth (record-on b small f (omega arith) (fine .version) (fine .said ∙ fine .whole))

@@ -2,43 +2,46 @@
 use mathlib.Core.Path.{_≡_, refl, sym, ap, _∙_}
 use mathlib.Core.Bool.{true, false, not, false≢true}
 use mathlib.Core.List.{List, [], _∷_, filterMap}
-use mathlib.Core.Option.{some}
+use mathlib.Core.Option.{some, Option·none-ne-some, Option·some-injective}
 use Prim.Native.Nat.{ℕ, _+_, _≤_, _<_}
 use native.Mathlib.Omega.{arith}
 use lib.Dec.{eqb, leb}
 use lib.ListN.{length, getD}
 use borrow.Author.Tests.{leb-true, eqb-false}
-use Rattle.lists.specs.All.{All, any, any-congr, all-of}
-use Rattle.lists.specs.Codec.{Bytes}
-use Rattle.lists.specs.Filter.{some-inj, none-some, holds, any-filterMap, all-filterMap}
-use Rattle.lists.specs.Rising.{least, least-ext}
-use Rattle.lists.specs.Rows.{length-rows, all-rows}
+use Rattle.lists.specs.All.{All, any}
+use Rattle.lists.proofs.All.{any-congr, all-of}
+use Rattle.lists.specs.Bytes.{Bytes}
+use Rattle.lists.specs.Filter.{holds}
+use Rattle.lists.proofs.Filter.{any-filterMap, all-filterMap}
+use Rattle.lists.specs.Rising.{least}
+use Rattle.lists.proofs.Rising.{least-ext}
+use Rattle.lists.proofs.Rows.{length-rows, all-rows}
 use Rattle.lists.specs.Sorted.{Rises}
 use Rattle.lists.specs.Stride.{at}
-use Rattle.lists.specs.Table.{rises-rows}
-use Rattle.lists.specs.Test.{and-l, or-second}
+use Rattle.lists.proofs.Table.{rises-rows}
+use Rattle.lists.proofs.Test.{and-l, or-second}
 use Rattle.numbers.specs.BigEndian.{u16At}
 use Rattle.numbers.proofs.Codecs.{u16-below}
 use Rattle.routes.specs.Form.{policyAt}
 use Rattle.routes.specs.declared.Demand.{Demand}
 use Rattle.routes.specs.declared.Route.{Route}
-use Rattle.networks.specs.Network.{Own, Input, Box, own, input, ids, wireKey, boxId, asOwn, asInput, isOwn, ownBoxes, inputs}
+use Rattle.networks.specs.Network.{Own, Input, Box, own, input, ids, wireKey, boxId, asOwn, asInput, isOwnBox, ownBoxes, inputs}
 use Rattle.networks.specs.Sound.{Sound, Joined, sends}
-use Rattle.records.specs.Form.{nodeWidth}
-use Rattle.records.specs.Layout.{nodeCount, edgeCount, policyCount, nodePart, edgePart, nodeOffset, edgeOffset}
-use Rattle.records.specs.Node.{nodeId, nodeOk, nodeFormed, isOwn as ownRow}
+use Rattle.layout.specs.Form.{nodeWidth}
+use Rattle.layout.specs.Layout.{nodeCount, edgeCount, policyCount, nodePart, edgePart, nodeOffset, edgeOffset}
+use Rattle.nodes.specs.Node.{nodeId, nodeOk, nodeFormed, isOwn}
 use Rattle.records.specs.Edge.{edgeTo, edgeFrom, edgePolicy, leftBy, inputOk}
-use Rattle.records.specs.Fine.{NetworkFine}
-use Rattle.records.specs.declared.Form.{Form}
+use Rattle.records.specs.Network.{NetworkFine}
+use Rattle.layout.specs.declared.Form.{Form}
 use Rattle.reading.specs.Parts.{boxAt, wireAt}
 use Rattle.reading.specs.Whole.{HouseNetwork, bounds, readNetwork}
 use Rattle.reading.proofs.Said.{box-id-at, box-own-at, read-ids, read-keys, owns-read, has-box-read, own-read, sends-read, Edge, edge-parts}
 
 -- an own box among the boxes is one of the own boxes
-pub some-own-boxes : {R D : Type 0} (vs : List (Box R D)) → any (λ (v : Box R D). isOwn (some v)) vs ≡ any (λ (o : Own R D). true) (filterMap asOwn vs)
+pub some-own-boxes : {R D : Type 0} (vs : List (Box R D)) → any (λ (v : Box R D). isOwnBox (some v)) vs ≡ any (λ (o : Own R D). true) (filterMap asOwn vs)
 some-own-boxes {R} {D} vs = any-congr _ _ vs (all-of vs same) ∙ sym (any-filterMap (λ (o : Own R D). true) asOwn vs)
   where
-    same : (v : Box R D) → isOwn (some v) ≡ holds (λ (o : Own R D). true) (asOwn v)
+    same : (v : Box R D) → isOwnBox (some v) ≡ holds (λ (o : Own R D). true) (asOwn v)
     same (own v) = refl
     same (input v) = refl
 
@@ -46,9 +49,9 @@ pub any-length : {A : Type 0} (xs : List A) → any (λ (x : A). true) xs ≡ tr
 any-length [] h = absurd (false≢true h)
 any-length (x ∷ xs) h = omega arith
 
-pub input-is : (v : Box Route Demand) (a : Input Route) → asInput v ≡ some a → (a .id ≡ boxId v) × (isOwn (some v) ≡ false)
-input-is (own v) a e = absurd (none-some e)
-input-is (input x) a e = (ap (λ (y : Input Route). y .id) (sym (some-inj e)), refl)
+pub input-is : (v : Box Route Demand) (a : Input Route) → asInput v ≡ some a → (a .id ≡ boxId v) × (isOwnBox (some v) ≡ false)
+input-is (own v) a e = absurd (Option·none-ne-some _ e)
+input-is (input x) a e = (ap (λ (y : Input Route). y .id) (sym (Option·some-injective _ _ e)), refl)
 
 module _ (f : Form) (b : List ℕ) (small : Bytes b) (fine : NetworkFine f b) where
   abbrev N : HouseNetwork
@@ -102,7 +105,7 @@ module _ (f : Form) (b : List ℕ) (small : Bytes b) (fine : NetworkFine f b) wh
 
   -- an input by its row: it is no own box, so that an edge leaves it
   input-used : (i : ℕ) → i < nodeCount b → (a : Input Route) → asInput (boxAt (f .route) b (at (nodePart b) (nodeWidth f) i)) ≡ some a → sends N (a .id) ≡ true
-  unfolding inputOk leftBy ownRow nodeId nodeOffset
+  unfolding inputOk leftBy isOwn nodeId nodeOffset
   input-used i l a e =
       let o = at (nodePart b) (nodeWidth f) i in
       let x = input-is (boxAt (f .route) b o) a e in

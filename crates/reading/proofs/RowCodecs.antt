@@ -4,7 +4,8 @@ use mathlib.Core.Bool.{true}
 use mathlib.Core.List.{List}
 use Prim.Native.Nat.{ℕ, _+_, _≤_, _<_}
 use native.Mathlib.Omega.{arith}
-use Rattle.lists.specs.Codec.{Codec, byte, pair, named, restated, Bytes}
+use Rattle.lists.proofs.Codec.{Codec, byte, pair, named, restated}
+use Rattle.lists.specs.Bytes.{Bytes}
 use Rattle.numbers.proofs.Codecs.{u16, u16-below}
 use Rattle.routes.specs.Form.{routeFormed}
 use Rattle.routes.proofs.RouteCodec.{route, RouteFits, route-read-fits}

@@ -12,22 +12,24 @@ use lib.Dec.{eqb, leb, ltb}
 use borrow.Author.Tests.{leb-true, ltb-true, not-true, le-leb, lt-ltb}
 use lib.ListN.{getD}
 use Rattle.lists.specs.All.{any}
-use Rattle.lists.specs.First.{every, every-ext}
-use Rattle.lists.specs.Rising.{least, place-ext}
+use Rattle.lists.specs.First.{every}
+use Rattle.lists.proofs.First.{every-ext}
+use Rattle.lists.specs.Rising.{least}
+use Rattle.lists.proofs.Rising.{place-ext}
 use Rattle.lists.specs.Sorted.{find}
 use Rattle.lists.specs.Stride.{at}
-use Rattle.lists.specs.Test.{and-l, and-r, cond-ap, cond-same, cond-test}
-use Rattle.lists.specs.Table.{keys, rowAt, find-rows, any-rows}
+use Rattle.lists.proofs.Test.{and-l, and-r, cond-ap, cond-same, cond-test}
+use Rattle.lists.proofs.Table.{keys, rowAt, find-rows, any-rows}
 use Rattle.numbers.specs.BigEndian.{u16At}
 use Rattle.routes.specs.declared.Demand.{Demand}
 use Rattle.routes.specs.declared.Route.{Route}
-use Rattle.networks.specs.Network.{Box, Wire, wireKey, boxId, isBox, isOwn, hasBox, owns}
+use Rattle.networks.specs.Network.{Box, Wire, wireKey, boxId, isBox, isOwnBox, hasBox, owns}
 use Rattle.networks.specs.Sound.{sends}
-use Rattle.records.specs.Form.{nodeWidth}
-use Rattle.records.specs.Layout.{nodeCount, edgeCount, policyCount, nodePart, edgePart, nodeOffset, edgeOffset}
-use Rattle.records.specs.Node.{nodeId, rowOf, ownless, isOwn as ownRow}
+use Rattle.layout.specs.Form.{nodeWidth}
+use Rattle.layout.specs.Layout.{nodeCount, edgeCount, policyCount, nodePart, edgePart, nodeOffset, edgeOffset}
+use Rattle.nodes.specs.Node.{nodeId, rowOf, ownless, isOwn}
 use Rattle.records.specs.Edge.{edgeTo, edgeFrom, edgePolicy, edgeKey, boxed, owned, endsFormed, edgeFormed, edgeOk}
-use Rattle.records.specs.declared.Form.{Form}
+use Rattle.layout.specs.declared.Form.{Form}
 use Rattle.reading.specs.Parts.{boxAt, wireAt}
 use Rattle.reading.specs.Whole.{HouseNetwork, readNetwork}
 
@@ -36,9 +38,9 @@ pub box-id-at : (w : ℕ) (b : List ℕ) (o : ℕ) → boxId (boxAt w b o) ≡ u
 unfolding boxAt
 box-id-at w b o = cond-ap boxId (eqb (getD b (o + 2) 0) 0) _ _ ∙ cond-same (eqb (getD b (o + 2) 0) 0) (u16At b o)
 
-pub box-own-at : (w : ℕ) (b : List ℕ) (o : ℕ) → isOwn (some (boxAt w b o)) ≡ eqb (getD b (o + 2) 0) 0
+pub box-own-at : (w : ℕ) (b : List ℕ) (o : ℕ) → isOwnBox (some (boxAt w b o)) ≡ eqb (getD b (o + 2) 0) 0
 unfolding boxAt
-box-own-at w b o = cond-ap (λ (v : Box Route Demand). isOwn (some v)) (eqb (getD b (o + 2) 0) 0) _ _ ∙ cond-test (eqb (getD b (o + 2) 0) 0)
+box-own-at w b o = cond-ap (λ (v : Box Route Demand). isOwnBox (some v)) (eqb (getD b (o + 2) 0) 0) _ _ ∙ cond-test (eqb (getD b (o + 2) 0) 0)
 
 module _ (f : Form) (b : List ℕ) where
   abbrev N : HouseNetwork
@@ -65,18 +67,18 @@ module _ (f : Form) (b : List ℕ) where
   has-box-read x = ap isBox (read-find x) ∙ cond-ap isBox (ltb (rowOf f b x) (nodeCount b)) _ none ∙ cond-test (ltb (rowOf f b x) (nodeCount b))
 
   pub owns-read : (x : ℕ) → owns N x ≡ owned f b x
-  unfolding owned boxed ownRow nodeOffset
-  owns-read x = ap isOwn (read-find x) ∙ go (ltb (rowOf f b x) (nodeCount b))
+  unfolding owned boxed isOwn nodeOffset
+  owns-read x = ap isOwnBox (read-find x) ∙ go (ltb (rowOf f b x) (nodeCount b))
     where
-      go : (t : Bool) → isOwn (cond t (some (boxAt (f .route) b (at (nodePart b) (nodeWidth f) (rowOf f b x)))) none) ≡ t && ownRow f b (rowOf f b x)
+      go : (t : Bool) → isOwnBox (cond t (some (boxAt (f .route) b (at (nodePart b) (nodeWidth f) (rowOf f b x)))) none) ≡ t && isOwn f b (rowOf f b x)
       go true = box-own-at (f .route) b (at (nodePart b) (nodeWidth f) (rowOf f b x))
       go false = refl
 
   -- there is an own box
-  pub own-read : any (λ (v : Box Route Demand). isOwn (some v)) (N .boxes) ≡ not (ownless f b)
-  unfolding readNetwork ownless ownRow nodeOffset
+  pub own-read : any (λ (v : Box Route Demand). isOwnBox (some v)) (N .boxes) ≡ not (ownless f b)
+  unfolding readNetwork ownless isOwn nodeOffset
   own-read =
-      any-rows (λ (v : Box Route Demand). isOwn (some v)) (boxAt (f .route) b) (nodeWidth f) (nodePart b) (nodeCount b)
+      any-rows (λ (v : Box Route Demand). isOwnBox (some v)) (boxAt (f .route) b) (nodeWidth f) (nodePart b) (nodeCount b)
       ∙ ap not (every-ext _ _ (nodeCount b) (λ k l. ap not (box-own-at (f .route) b (at (nodePart b) (nodeWidth f) k))))
 
   -- a wire leads out of the box with an id

@@ -11,28 +11,30 @@ use native.Mathlib.Omega.{arith}
 use lib.Dec.{eqb}
 use lib.ListN.{length, getD}
 use borrow.Author.Tests.{le-leb, ne-eqb, not-true}
-use Rattle.lists.specs.All.{All, any, all-append}
-use Rattle.lists.specs.Codec.{Bytes, rows-small, rows-made, small-bytes}
-use Rattle.lists.specs.Filter.{filterMap-all}
+use Rattle.lists.specs.All.{All, any}
+use Rattle.lists.proofs.All.{all-append}
+use Rattle.lists.specs.Bytes.{Bytes}
+use Rattle.lists.proofs.Codec.{rows-small, rows-made, small-bytes}
+use Rattle.lists.proofs.Filter.{filterMap-all}
 use Rattle.lists.specs.First.{every}
-use Rattle.lists.specs.Rising.{least-ext}
-use Rattle.lists.specs.Rows.{length-rows, rows-all}
+use Rattle.lists.proofs.Rising.{least-ext}
+use Rattle.lists.proofs.Rows.{length-rows, rows-all}
 use Rattle.lists.specs.Stride.{at}
-use Rattle.lists.specs.Table.{rows-rise}
-use Rattle.lists.specs.Test.{and-i}
+use Rattle.lists.proofs.Table.{rows-rise}
+use Rattle.lists.proofs.Test.{and-i}
 use Rattle.numbers.specs.BigEndian.{u16At, u32At}
 use Rattle.routes.specs.Form.{policyAt, routeAt}
 use Rattle.routes.proofs.PolicyCodec.{policy}
 use Rattle.routes.specs.declared.Route.{Route}
 use Rattle.networks.specs.Network.{Input, own, wireKey, boxId, asInput, ownBoxes, inputs}
 use Rattle.networks.specs.Sound.{Sound, Joined, sends}
-use Rattle.records.specs.Form.{nodeWidth, Usable}
-use Rattle.records.specs.Layout.{nodeCount, edgeCount, policyCount, policyOffset, nodePart, edgePart, nodeOffset, edgeOffset, total}
-use Rattle.records.specs.Node.{nodeId, nodeOk, nodeFormed, ownless, isOwn as ownRow}
+use Rattle.layout.specs.Form.{nodeWidth, Usable, versioned}
+use Rattle.layout.specs.Layout.{nodeCount, edgeCount, policyCount, policyOffset, nodePart, edgePart, nodeOffset, edgeOffset, total}
+use Rattle.nodes.specs.Node.{nodeId, nodeOk, nodeFormed, ownless, isOwn}
 use Rattle.records.specs.Edge.{edgeTo, edgeFrom, edgePolicy, edgeOk, leftBy, inputOk}
-use Rattle.records.specs.Network.{policyOk}
-use Rattle.records.specs.Fine.{NetworkFine}
-use Rattle.records.specs.declared.Form.{Form}
+use Rattle.nodes.specs.Policy.{policyOk}
+use Rattle.records.specs.Network.{NetworkFine}
+use Rattle.layout.specs.declared.Form.{Form}
 use Rattle.reading.specs.Parts.{boxAt, wireAt}
 use Rattle.reading.specs.Whole.{HouseNetwork, bounds, readNetwork, writeNetwork}
 use Rattle.reading.proofs.BoxCodec.{box}
@@ -40,6 +42,7 @@ use Rattle.reading.proofs.RowCodecs.{wire}
 use Rattle.reading.proofs.Said.{read-ids, read-keys, owns-read, has-box-read, own-read, sends-read, Edge, parts-edge}
 use Rattle.reading.proofs.ReadSound.{some-own-boxes}
 use Rattle.reading.proofs.NetworkBytes.{NetworkFits, policyPart, boxPart, wirePart, head, written, node-count, edge-count, policy-count, node-part, edge-part, length-wires, parts-length, length-parts, length-written, parts-counted, read-written}
+use Rattle.layout.proofs.OneForm.{version-test}
 
 length-any : {A : Type 0} (xs : List A) → 0 < length xs → any (λ (x : A). true) xs ≡ true
 length-any [] h = absurd (omega arith)
@@ -52,7 +55,7 @@ input-at w b o q = rw q
 -- the frame: 1 to 5
 pub record Framed (f : Form) (b : List ℕ) : Type 0 where
   pub long : 10 ≤ length b
-  pub version : getD b 4 0 ≡ 1
+  pub version : versioned f b ≡ true
   pub said : u32At b 0 + 4 ≡ total f b
   pub whole : total f b ≡ length b
 
@@ -97,7 +100,7 @@ module _ (f : Form) (b : List ℕ) (frame : Framed f b)
 
   -- a row that is no own box's is an input's, and a wire leads out of it
   input-ok : (i : ℕ) → i < nodeCount b → inputOk f b i ≡ true
-  unfolding inputOk leftBy ownRow nodeId nodeOffset readNetwork
+  unfolding inputOk leftBy isOwn nodeId nodeOffset readNetwork
   input-ok i l = go (eqb (getD b (at (nodePart b) (nodeWidth f) i + 2) 0) 0) refl
     where
       o : ℕ
@@ -151,7 +154,7 @@ module _ (f : Form) (usable : Usable f) (N : HouseNetwork) (sound : Sound (bound
   framed : Framed f W
   framed = record {
     long = let e = length-written f enough N in omega arith;
-    version = rw (written f enough N) refl;
+    version = version-test f W (rw (written f enough N) refl);
     said = let e = said-written in let g = total-written in let h = length-parts f enough N in omega arith;
     whole = total-written ∙ sym (length-written f enough N);
   }

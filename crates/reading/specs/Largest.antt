@@ -1,7 +1,7 @@
 -- How long the largest records of a form are (document 01, 'Records'): every count at its bound.
 use Prim.Native.Nat.{ℕ, _+_, _*_}
-use Rattle.records.specs.Form.{nodeWidth, entryWidth}
-use Rattle.records.specs.declared.Form.{Form}
+use Rattle.layout.specs.Form.{nodeWidth, entryWidth}
+use Rattle.layout.specs.declared.Form.{Form}
 use Rattle.reading.specs.Whole.{bounds}
 
 -- ten bytes, the policies, the nodes, the edges

@@ -1,5 +1,5 @@
--- What the bytes of a record say, the bytes that say it, and how many there can be.
+-- The house's routes as a routing algebra; what the bytes of a record say, the bytes that say it, and how many there can be.
+pub mod House
 pub mod Parts
 pub mod Whole
 pub mod Largest
-pub mod Refused

@@ -13,10 +13,9 @@ use Rattle.routes.specs.declared.Route.{Route}
 use Rattle.networks.specs.Network.{Network}
 use Rattle.networks.specs.Sound.{Bounds}
 use Rattle.networks.specs.Sheets.{SheetEntry, ListEntry, Sheet, RouteList}
-use Rattle.records.specs.Form.{nodeWidth, entryWidth, listLead, sheetLead}
-use Rattle.records.specs.Layout.{nodeCount, edgeCount, policyCount, nodePart, edgePart}
-use Rattle.records.specs.Entries.{entryCount}
-use Rattle.records.specs.declared.Form.{Form}
+use Rattle.layout.specs.Form.{nodeWidth, entryWidth, listLead, sheetLead, formOf}
+use Rattle.layout.specs.Layout.{nodeCount, edgeCount, policyCount, nodePart, edgePart, entryCount}
+use Rattle.layout.specs.declared.Form.{Form}
 use Rattle.reading.specs.Parts.{boxAt, boxBytes, wireAt, wireBytes, sheetEntryAt, sheetEntryBytes, listEntryAt, listEntryBytes}
 
 -- the networks, sheets and lists that records hold
@@ -33,9 +32,9 @@ HouseList = RouteList Route
 abbrev pub bounds : Form → Bounds
 bounds f = record { boxes = f .most; wires = 4096; policies = 64 }
 
--- a record of version 1: the length of what follows it, the version, and the rest
-abbrev pub recordOf : List ℕ → List ℕ
-recordOf rest = u32Bytes (length rest + 1) ++ (1 ∷ rest)
+-- a record of a form: the length of what follows it, the version, and the rest
+abbrev pub recordOf : Form → List ℕ → List ℕ
+recordOf f rest = u32Bytes (length rest + 1) ++ (f .version ∷ rest)
 
 module _ (f : Form) where
   unfoldable pub readNetwork : List ℕ → HouseNetwork
@@ -47,7 +46,7 @@ module _ (f : Form) where
 
   -- node count, edge count, policy count; policies, nodes, edges
   unfoldable pub writeNetwork : HouseNetwork → List ℕ
-  writeNetwork N = recordOf
+  writeNetwork N = recordOf f
       (u16Bytes (length (N .boxes)) ++ (u16Bytes (length (N .wires)) ++ (length (N .policies) ∷
       (laidRows policyBytes (N .policies) ++ (laidRows (boxBytes (f .route)) (N .boxes) ++ laidRows wireBytes (N .wires))))))
 
@@ -55,13 +54,23 @@ module _ (f : Form) where
   readSheet b = rows (sheetEntryAt (f .route) b) (entryWidth f sheetLead) 7 (entryCount b)
 
   unfoldable pub writeSheet : HouseSheet → List ℕ
-  writeSheet S = recordOf (u16Bytes (length S) ++ laidRows (sheetEntryBytes (f .route)) S)
+  writeSheet S = recordOf f (u16Bytes (length S) ++ laidRows (sheetEntryBytes (f .route)) S)
 
   unfoldable pub readList : List ℕ → HouseList
   readList b = rows (listEntryAt (f .route) b) (entryWidth f listLead) 7 (entryCount b)
 
   unfoldable pub writeList : HouseList → List ℕ
-  writeList L = recordOf (u16Bytes (length L) ++ laidRows (listEntryBytes (f .route)) L)
+  writeList L = recordOf f (u16Bytes (length L) ++ laidRows (listEntryBytes (f .route)) L)
+
+-- what the bytes of a record say, by its own form
+abbrev pub networkOf : List ℕ → HouseNetwork
+networkOf b = readNetwork (formOf b) b
+
+abbrev pub sheetOf : List ℕ → HouseSheet
+sheetOf b = readSheet (formOf b) b
+
+abbrev pub listOf : List ℕ → HouseList
+listOf b = readList (formOf b) b
 
 -- sheets and lists that a record can hold: entries by rising id, no more than the greatest number, fragment numbers up to 63
 pub record SheetFormed (f : Form) (S : HouseSheet) : Type 0 where

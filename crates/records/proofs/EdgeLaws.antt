@@ -1,7 +1,7 @@
 -- The edges of a network, as the code reads them.
 --     owned-ids             whether an own node has an id, by the table from ids to rows
 --     edge-forms            when an edge is well formed
-use Prim.Native.Nat.{ℕ, _+_, _-_, _<_}
+use Prim.Native.Nat.{ℕ, _+_}
 use native.Mathlib.Omega.{arith}
 use mathlib.Core.Path.{_≡_, refl}
 use mathlib.Core.Bool.{Bool, true, false, not}
@@ -12,32 +12,25 @@ use mir.Syntax.{w16}
 use mir.Val.{Fits}
 use borrow.Author.Tests.{not-true, not-false}
 use Rattle.numbers.specs.BigEndian.{u16At}
-use Rattle.records.specs.Layout.{nodeCount}
-use Rattle.records.specs.Node.{isOwn, rowOf}
+use Rattle.nodes.specs.Node.{isOwn, rowOf}
 use Rattle.records.specs.Edge.{boxed, owned, endsFormed, edgeFormed}
 use Rattle.records.specs.Rows.{Filled}
-use Rattle.records.specs.RowLaws.{row-within, mark-none, mark-boxed, mark-row}
-use Rattle.records.specs.declared.Form.{Form}
+use Rattle.records.proofs.RowLaws.{mark-none, mark-boxed}
+use Rattle.layout.specs.declared.Form.{Form}
 
 module _ (f : Form) (b rows : List ℕ) (filled : Filled f b rows) where
-  module _ (id row : ℕ) (m : Fits w16 id) (e : row ≡ getD rows id 0) where
-    pub owned-none : row ≡ 0 → false ≡ owned f b id
+  module _ (id : ℕ) (m : Fits w16 id) where
+    pub owned-none : getD rows id 0 ≡ 0 → false ≡ owned f b id
     unfolding owned
-    owned-none z = let h : boxed f b id ≡ false = mark-none f b id rows row filled (omega arith) e z in rw h
+    owned-none z = let h : boxed f b id ≡ false = mark-none f b id rows (getD rows id 0) filled (omega arith) refl z in rw h
 
-    module _ (d : row ≡ 0 → ⊥) where
-      there : boxed f b id ≡ true
-      there = mark-boxed f b id rows row filled (omega arith) e d
+    module _ (d : getD rows id 0 ≡ 0 → ⊥) where
+      pub owned-there : boxed f b id ≡ true
+      owned-there = mark-boxed f b id rows (getD rows id 0) filled (omega arith) refl d
 
-      at-row : row - 1 ≡ rowOf f b id
-      at-row = let h = mark-row f b id rows row filled (omega arith) e there in omega arith
-
-      pub owned-row : row - 1 < nodeCount b
-      owned-row = let w = row-within f b id there in let z = at-row in omega arith
-
-      pub owned-own : (t : Bool) → t ≡ isOwn f b (row - 1) → t ≡ owned f b id
+      pub owned-own : (row : ℕ) (t : Bool) → row ≡ rowOf f b id → t ≡ isOwn f b row → t ≡ owned f b id
       unfolding owned
-      owned-own t q = rw (there, ← at-row) q
+      owned-own row t e q = rw (owned-there, ← e) q
 
   module _ (to from : ℕ) (t : Bool) (q : t ≡ owned f b to) where
     pub ends-to : not t ≡ true → false ≡ endsFormed f b to from
@@ -66,7 +59,7 @@ module _ (f : Form) (b : List ℕ) (o to from : ℕ) (p : to ≡ u16At b o) (r :
   unfolding edgeFormed
   edge-policy y = rw (← p, ← r, ← q, not-false t y)
 
-pub ruleset owned-ids = (owned-none, owned-row, owned-own)
+pub ruleset owned-ids = (owned-none, owned-there, owned-own)
 
 pub ruleset edge-ends-formed = (ends-to, ends-from, ends-differ)
 

@@ -3,29 +3,32 @@
 --     edge-read             one edge is read
 --     edging                the ways on of the loop over the edges
 --     leaving, inputs       an input that no edge leaves, and the loop that looks for one
-use Prim.Native.Nat.{ℕ, _+_, _-_, _*_, _^_, _≤_, _<_}
+use Prim.Native.Nat.{ℕ, _+_, _*_, _^_, _≤_, _<_}
 use native.Mathlib.Omega.{arith}
 use mathlib.Core.Path.{_≡_, refl, sym, ap, _∙_}
-use mathlib.Core.Bool.{Bool, true, false, cond, not, _&&_, _||_, and-false, or-true, or-false}
+use mathlib.Core.Bool.{Bool, true, false, cond, not, and-false}
 use mathlib.Core.List.{List}
 use lib.Dec.{eqb, leb}
-use lib.ListN.{length, getD, set, length-set}
-use lib.Seq.{getD-set-same, getD-set-other}
-use mir.Syntax.{w16, w64}
+use lib.ListN.{length, getD, set, replicate}
+use mir.Syntax.{w64}
 use mir.Val.{Fits}
-use borrow.Author.Tests.{eqb-true, eqb-false, le-leb, lt-leb, not-true, not-false}
-use Rattle.lists.specs.First.{firstBad, every, every-next, Passed, passed-none, passed-more, passed-stop, passed-end}
-use Rattle.lists.specs.Rising.{Rising, least, least-start, least-next}
-use Rattle.lists.specs.Test.{and-l, and-r}
-use Rattle.lists.specs.Walk.{Walk, walk-start, walk-next, walk-bad, walk-end}
+use borrow.Author.Tests.{le-leb, lt-leb, not-true, not-false}
+use Rattle.lists.specs.First.{firstBad}
+use Rattle.lists.specs.Gather.{tableAfter}
+use Rattle.lists.proofs.Gather.{after-none, after-next}
+use Rattle.lists.proofs.First.{first-le, first-all, Passed, passed-none, passed-more, passed-stop, passed-end}
+use Rattle.lists.specs.Rising.{Rising, least}
+use Rattle.lists.proofs.Rising.{least-start, least-next}
+use Rattle.lists.proofs.Test.{and-l, and-r}
+use Rattle.lists.proofs.Walk.{Walk, walk-start, walk-next, walk-bad, walk-end}
 use Rattle.numbers.specs.BigEndian.{u16At}
-use Rattle.records.specs.Layout.{Room, nodeCount, edgeCount, edgeOffset}
-use Rattle.records.specs.Node.{nodeId, isOwn, rowOf}
+use Rattle.layout.specs.Layout.{Room, nodeCount, edgeCount, edgeOffset}
+use Rattle.nodes.specs.Node.{nodeId, isOwn, rowOf}
 use Rattle.records.specs.Edge.{boxed, owned, edgeTo, edgeFrom, edgeKey, endsFormed, edgeFormed, edgeOk, leftBy, inputOk}
-use Rattle.records.specs.Rows.{Filled, LeftMarked, keyAfter, leftAfter}
-use Rattle.records.specs.RowLaws.{row-within, row-found, row-is, mark-row}
-use Rattle.records.specs.Offsets.{edge-after, edge-room}
-use Rattle.records.specs.declared.Form.{Form}
+use Rattle.records.specs.Rows.{keyAfter, Marked, markedBy, anyEdge}
+use Rattle.layout.proofs.Places.{edge-after, edge-room}
+use Rattle.layout.specs.declared.Form.{Form}
+use Rattle.records.proofs.MarkLaws.{marks-say}
 
 module _ (f : Form) (b : List ℕ) where
   -- the from end of a well formed edge is there
@@ -37,46 +40,12 @@ module _ (f : Form) (b : List ℕ) where
   unfolding edgeOk edgeFrom
   edge-sent j e = sender (edgeOffset f b j) (and-r (leb (least (edgeKey f b) j) (edgeKey f b j)) _ e)
 
-  module _ (rows : List ℕ) (o from row : ℕ) (filled : Filled f b rows) (e : edgeFormed f b o ≡ true) (p : from ≡ u16At b (o + 2)) (m : Fits w16 from)
-      (q : row ≡ getD rows from 0) where
-    sender-row : row ≡ rowOf f b (u16At b (o + 2)) + 1
-    sender-row = rw (← p) (mark-row f b from rows row filled (omega arith) q (rw p (sender o e)))
+  module _ (o from : ℕ) (p : from ≡ u16At b (o + 2)) where
+    pub marking-there : edgeFormed f b o ≡ true → boxed f b from ≡ true
+    marking-there e = rw p (sender o e)
 
-    pub marking-some : 1 ≤ row
-    marking-some = let z = sender-row in omega arith
-
-    pub marking-row : Room f b → row - 1 < 1024
-    marking-row r =
-        let z = sender-row in
-        let w = row-within f b (u16At b (o + 2)) (sender o e) in
-        let k = r .few in
-        let u = r .usable .few in
-        omega arith
-
-    pub marking-done : (left : List ℕ) → set left (row - 1) 1 ≡ set left (rowOf f b (u16At b (o + 2))) 1
-    marking-done left = ap (λ (k : ℕ). set left k 1) (let z = sender-row in omega arith)
-
-  -- one edge more leaves the row of its from end
-  left-more : (j : ℕ) (left : List ℕ) → nodeCount b ≤ length left → Rising (nodeId f b) (nodeCount b) → boxed f b (edgeFrom f b j) ≡ true
-      → LeftMarked f b j left → LeftMarked f b (j + 1) (set left (rowOf f b (edgeFrom f b j)) 1)
-  unfolding LeftMarked leftBy
-  left-more j left long rise there m i l =
-      rw (every-next (λ k. not (eqb (edgeFrom f b k) (nodeId f b i))) j, spread (every (λ k. not (eqb (edgeFrom f b k) (nodeId f b i))) j) (eqb (edgeFrom f b j) (nodeId f b i)))
-      (go (eqb (edgeFrom f b j) (nodeId f b i)) refl)
-    where
-      spread : (a t : Bool) → not (a && not t) ≡ not a || t
-      spread true true = refl
-      spread true false = refl
-      spread false t = refl
-
-      go : (t : Bool) → eqb (edgeFrom f b j) (nodeId f b i) ≡ t
-          → getD (set left (rowOf f b (edgeFrom f b j)) 1) i 0 ≡ cond (not (every (λ k. not (eqb (edgeFrom f b k) (nodeId f b i))) j) || t) 1 0
-      go true q =
-          let e : rowOf f b (edgeFrom f b j) ≡ i = row-is f b (edgeFrom f b j) i rise l (sym (eqb-true _ _ q)) in
-          simp (e, getD-set-same left i 1 0 (omega arith), or-true)
-      go false q =
-          let d : rowOf f b (edgeFrom f b j) ≡ i → ⊥ = λ e. eqb-false _ _ q (sym (row-found f b (edgeFrom f b j) there) ∙ ap (nodeId f b) e) in
-          simp (getD-set-other left (rowOf f b (edgeFrom f b j)) i 1 0 (λ e. d (sym e)), or-false) (m i l)
+    pub marking-done : (left : List ℕ) (row : ℕ) → row ≡ rowOf f b from → set left row 1 ≡ set left (rowOf f b (u16At b (o + 2))) 1
+    marking-done left row q = rw (q, p)
 
   -- one edge is read
   module _ (j at : ℕ) (e : at ≡ edgeOffset f b j) where
@@ -117,8 +86,8 @@ module _ (f : Form) (b : List ℕ) where
             unfolding keyAfter
             good-next = rw good (ap (λ (x : ℕ). x + 1) key-is)
 
-            pub good-marks : (left marked : List ℕ) → marked ≡ set left (rowOf f b (u16At b (at + 2))) 1 → marked ≡ leftAfter f b j left
-            unfolding leftAfter
+            pub good-marks : (left marked : List ℕ) → marked ≡ set left (rowOf f b (u16At b (at + 2))) 1 → marked ≡ markedBy f b (edgeOk f b) j left
+            unfolding markedBy
             good-marks left marked d = rw (good, from-is) d
 
   -- an edge that is not in order changes nothing
@@ -127,8 +96,8 @@ module _ (f : Form) (b : List ℕ) where
     unfolding keyAfter
     bad-next = rw e
 
-    pub bad-marks : (left : List ℕ) → left ≡ leftAfter f b j left
-    unfolding leftAfter
+    pub bad-marks : (left : List ℕ) → left ≡ markedBy f b (edgeOk f b) j left
+    unfolding markedBy
     bad-marks left = rw e
 
   pub key-none : (j key : ℕ) → key ≡ keyAfter f b j → key ≡ 0 → edgeOk f b j ≡ false
@@ -139,58 +108,62 @@ module _ (f : Form) (b : List ℕ) where
       go true q = absurd (omega arith)
       go false q = refl
 
-pub ruleset marking = (marking-some, marking-row, marking-done)
+pub ruleset marking = (marking-there, marking-done)
 
 pub ruleset edge-read = (edge-here, read-low, read-ill, read-formed, good-next, good-marks, bad-next, bad-marks)
 
 -- what the loop over the edges knows
-pub record Edging (f : Form) (b : List ℕ) (n j o low : ℕ) (left : List ℕ) : Type 0 where
+pub record Edging (f : Form) (b : List ℕ) (n j o low : ℕ) (left₀ left : List ℕ) : Type 0 where
   pub walk : Walk (edgeOffset f b) (edgeOk f b) n j o
   pub floor : low ≡ least (edgeKey f b) j
-  pub long : length left ≡ 1024
-  pub marks : LeftMarked f b j left
+  pub marks : left ≡ tableAfter (markedBy f b anyEdge) j left₀
 
-module _ (f : Form) (b : List ℕ) (n : ℕ) where
-  pub edging-start : (o : ℕ) (left : List ℕ) → o ≡ edgeOffset f b 0 → length left ≡ 1024 → LeftMarked f b 0 left → Edging f b n 0 o 0 left
-  edging-start o left e l m = record { walk = walk-start _ _ n o e; floor = least-start _; long = l; marks = m }
+module _ (f : Form) (b : List ℕ) (n : ℕ) (left₀ : List ℕ) where
+  pub edging-start : (o : ℕ) → o ≡ edgeOffset f b 0 → Edging f b n 0 o 0 left₀ left₀
+  edging-start o e = record { walk = walk-start _ _ n o e; floor = least-start _; marks = after-none (markedBy f b anyEdge) left₀ }
 
-  module _ (j o low : ℕ) (left : List ℕ) (c : Edging f b n j o low left) where
+  module _ (j o low : ℕ) (left : List ℕ) (c : Edging f b n j o low left₀ left) where
     pub edging-end : n ≤ j → j ≡ firstBad (edgeOk f b) n
     edging-end l = walk-end _ _ n j o (c .walk) l
 
-    pub edging-marks : LeftMarked f b j left
+    pub edging-marks : left ≡ tableAfter (markedBy f b anyEdge) j left₀
     edging-marks = c .marks
 
     pub edging-bad : j < n → edgeOk f b j ≡ false → j ≡ firstBad (edgeOk f b) n
     edging-bad l e = walk-bad _ _ n j o (c .walk) l e
 
     -- and nothing was marked
-    pub edging-bad-marks : (left′ : List ℕ) → left′ ≡ leftAfter f b j left → edgeOk f b j ≡ false → LeftMarked f b j left′
-    unfolding leftAfter
-    edging-bad-marks left′ d e = rw (d, e) (c .marks)
+    pub edging-bad-marks : (left′ : List ℕ) → left′ ≡ markedBy f b (edgeOk f b) j left → edgeOk f b j ≡ false → left′ ≡ tableAfter (markedBy f b anyEdge) j left₀
+    unfolding markedBy
+    edging-bad-marks left′ d e = (rw e at d) ∙ c .marks
 
     module _ (l : j < n) (key : ℕ) (k : key ≡ keyAfter f b j) where
-      pub edging-next : (left′ : List ℕ) → (key ≡ 0 → ⊥) → left′ ≡ leftAfter f b j left
-          → Room f b → Rising (nodeId f b) (nodeCount b) → Edging f b n (j + 1) (o + 5) key left′
-      unfolding keyAfter leftAfter
-      edging-next left′ z d r s = go (edgeOk f b j) refl k d
+      pub edging-next : (left′ : List ℕ) → (key ≡ 0 → ⊥) → left′ ≡ markedBy f b (edgeOk f b) j left → Edging f b n (j + 1) (o + 5) key left₀ left′
+      unfolding keyAfter markedBy
+      edging-next left′ z d = go (edgeOk f b j) refl k d
         where
           go : (t : Bool) → edgeOk f b j ≡ t → key ≡ cond t (edgeKey f b j + 1) 0 → left′ ≡ cond t (set left (rowOf f b (edgeFrom f b j)) 1) left
-              → Edging f b n (j + 1) (o + 5) key left′
+              → Edging f b n (j + 1) (o + 5) key left₀ left′
           go false q k′ d′ = absurd (z k′)
           go true q k′ d′ =
               let here = c .walk .here in
-              let few = r .few in
-              let most = r .usable .few in
-              rw d′ (record {
+              record {
                 walk = walk-next _ _ n j o (c .walk) (o + 5) l q (omega (arith, edge-after f b j));
                 floor = omega (arith, least-next (edgeKey f b) j);
-                long = length-set left _ 1 ∙ c .long;
-                marks = left-more f b j left (omega (arith, c .long)) s (edge-sent f b j q) (c .marks);
-              })
+                marks = after-next (markedBy f b anyEdge) left₀ j left left′ (c .marks) d′;
+              }
 
       pub edging-fits : Room f b → n ≡ edgeCount b → length b < 2 ^ 64 → Fits w64 (o + 5)
       edging-fits r q g = let here = c .walk .here in omega (arith, edge-room f b r j (omega arith))
+
+-- every edge is in order: the marks tell which rows edges leave
+pub left-marked : (f : Form) (b : List ℕ) (n bad : ℕ) (left : List ℕ) → Room f b → Rising (nodeId f b) (nodeCount b) → n ≡ u16At b 7 → bad ≡ firstBad (edgeOk f b) n → n ≤ bad
+    → left ≡ tableAfter (markedBy f b anyEdge) bad (replicate 1024 0) → Marked f b anyEdge (edgeCount b) left
+left-marked f b n bad left r s c p l e =
+    let few = r .few in
+    let most = r .usable .few in
+    let all : bad ≡ edgeCount b = let h = first-le (edgeOk f b) n in omega arith in
+    rw (e, ← all) (marks-say f b anyEdge (omega arith) s bad (λ j q. edge-sent f b j (first-all (edgeOk f b) n j (omega arith))))
 
 pub ruleset edging = (edging-start, edging-end, edging-marks, edging-bad, edging-bad-marks, edging-next)
 
@@ -201,8 +174,8 @@ module _ (f : Form) (b : List ℕ) where
     unfolding inputOk
     leaving-own y = rw (← e, y)
 
-    pub leaving-input : (left : List ℕ) → t ≡ false → LeftMarked f b (edgeCount b) left → i < nodeCount b → eqb (getD left i 0) 1 ≡ inputOk f b i
-    unfolding inputOk LeftMarked
+    pub leaving-input : (left : List ℕ) → t ≡ false → Marked f b anyEdge (edgeCount b) left → i < nodeCount b → eqb (getD left i 0) 1 ≡ inputOk f b i
+    unfolding inputOk leftBy Marked
     leaving-input left y m l = rw (← e, y, m i l) (one (leftBy f b (edgeCount b) i))
       where
         one : (s : Bool) → eqb (cond s 1 0) 1 ≡ s

@@ -1,12 +1,12 @@
--- The laws that the checks and the lookups are proved by, file by file as the code goes.
-pub mod LayoutLaws
-pub mod NodeLaws
-pub mod PolicyLaws
+-- Laws for other crates: Fine, RowLaws, MarkLaws, Checked, EnteredLaws, Boundaries. Laws for the code's own proofs: EdgeLaws, FillLaws,
+-- LeftLaws, NetworkRefusals.
+pub mod Fine
 pub mod RowLaws
+pub mod MarkLaws
+pub mod Checked
+pub mod EnteredLaws
+pub mod Boundaries
 pub mod EdgeLaws
+pub mod FillLaws
 pub mod LeftLaws
-pub mod EntryLaws
-pub mod EntryRefusals
 pub mod NetworkRefusals
-pub mod LookupLaws
-pub mod AnswerLaws

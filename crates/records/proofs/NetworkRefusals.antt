@@ -10,55 +10,56 @@ use mathlib.Core.Path.{_≡_, sym, _∙_}
 use mathlib.Core.Bool.{Bool, true, false, cond}
 use mathlib.Core.List.{List}
 use lib.Dec.{ltb}
-use lib.ListN.{length, getD, replicate, getD-replicate}
+use lib.ListN.{length, getD}
 use borrow.Author.Tests.{eq-eqb, ne-eqb, lt-ltb, le-ltb, ltb-false}
-use Rattle.lists.specs.First.{firstBad, every, first-all, first-le}
+use Rattle.lists.specs.First.{firstBad}
+use Rattle.lists.proofs.First.{first-all}
 use Rattle.lists.specs.Rising.{Rising}
-use Rattle.lists.specs.Test.{or-f-l}
+use Rattle.lists.proofs.Test.{or-f-l}
 use Rattle.numbers.specs.BigEndian.{u16At, u32At}
-use Rattle.records.specs.Form.{version1}
-use Rattle.records.specs.Layout.{Room, nodeCount, edgeCount, policyCount, policyOffset, nodePart, nodeOffset, edgeOffset, total}
-use Rattle.records.specs.Node.{nodeId, nodeOk, ownless}
-use Rattle.records.specs.Edge.{edgeOk, inputOk, leftBy}
-use Rattle.records.specs.Rows.{Filled, LeftMarked, RowsAfter}
-use Rattle.records.specs.RowLaws.{ids-rise}
-use Rattle.records.specs.Offsets.{nodes-room, policies-room}
-use Rattle.records.specs.Network.{policyOk, manyParts, badPolicy, badNode, badEdge, badInput, networkFrom, networkRefusal}
-use Rattle.records.specs.Numbers.{refused, fine, checkNumbers}
-use Rattle.records.specs.declared.Check.{Check}
-use Rattle.records.specs.declared.Form.{Form}
+use Rattle.layout.specs.Layout.{Room, nodeCount, edgeCount, policyCount, policyOffset, nodePart, nodeOffset, edgeOffset, total}
+use Rattle.nodes.specs.Node.{nodeId, nodeOk, ownless}
+use Rattle.records.specs.Edge.{edgeOk, inputOk}
+use Rattle.records.specs.Rows.{Filled, RowsAfter}
+use Rattle.records.proofs.RowLaws.{ids-rise}
+use Rattle.layout.proofs.Places.{nodes-room, policies-room}
+use Rattle.nodes.specs.Policy.{policyOk}
+use Rattle.records.specs.Network.{manyParts, badPolicy, badNode, badEdge, badInput, networkFrom, networkRefusal}
+use Rattle.lists.specs.Answer.{refused, given}
+use Rattle.layout.specs.Refusals.{checkAnswer}
+use Rattle.layout.specs.declared.Check.{Check}
+use Rattle.layout.specs.declared.Form.{Form}
+use Rattle.layout.specs.declared.Formed.{Formed}
+use Rattle.layout.specs.Form.{formed, formOf}
+use Rattle.layout.specs.declared.Formed.the-variants.{Unknown, Of}
+use Rattle.layout.proofs.OneForm.{unnamed, named-form}
 
 module _ (f : Form) (b : List ℕ) where
-  -- before the edges are read no row is marked
-  pub marks-start : Room f b → LeftMarked f b 0 (replicate 1024 0)
-  unfolding LeftMarked leftBy every firstBad
-  marks-start r i l = let k = r .few in let u = r .usable .few in getD-replicate 1024 i 0 0 (omega arith)
-
   module _ (e bad : ℕ) (c : e ≡ u16At b 7) (p : bad ≡ firstBad (edgeOk f b) e) where
     pub wires-edge : (o : ℕ) → bad < e → o ≡ edgeOffset f b bad → refused 9 o ≡ networkFrom f b 9
     unfolding networkFrom
     wires-edge o l q = rw (← c, ← p, lt-ltb _ _ l, ← q)
 
     module _ (l : e ≤ bad) where
-      -- every edge is read
-      pub marks-end : (left : List ℕ) → LeftMarked f b bad left → LeftMarked f b (edgeCount b) left
-      marks-end left m = let z : bad ≡ edgeCount b = let h = first-le (edgeOk f b) e in omega arith in rw z at m
+      pub wires-inputs : (a : Check) → checkAnswer a ≡ networkFrom f b 10 → checkAnswer a ≡ networkFrom f b 9
+      unfolding networkFrom
+      wires-inputs a z = let edges : ltb (badEdge f b) (edgeCount b) ≡ false = rw (← c, ← p) (le-ltb _ _ l) in rw edges z
 
-      module _ (n i : ℕ) (d : n ≡ u16At b 5) (q : i ≡ firstBad (inputOk f b) n) where
-        pub wires-input : (o : ℕ) → i < n → o ≡ nodeOffset f b i → refused 10 o ≡ networkFrom f b 9
-        unfolding networkFrom
-        wires-input o m r = rw (← c, ← p, le-ltb _ _ l, ← d, ← q, lt-ltb _ _ m, ← r)
+  module _ (n i : ℕ) (d : n ≡ u16At b 5) (q : i ≡ firstBad (inputOk f b) n) where
+    pub inputs-ill : (o : ℕ) → i < n → o ≡ nodeOffset f b i → refused 10 o ≡ networkFrom f b 10
+    unfolding networkFrom
+    inputs-ill o m r = rw (← d, ← q, lt-ltb _ _ m, ← r)
 
-        pub wires-fine : n ≤ i → fine ≡ networkFrom f b 9
-        unfolding networkFrom
-        wires-fine m = rw (← c, ← p, le-ltb _ _ l, ← d, ← q, le-ltb _ _ m)
+    pub inputs-fine : n ≤ i → given f ≡ networkFrom f b 10
+    unfolding networkFrom
+    inputs-fine m = rw (← d, ← q, le-ltb _ _ m)
 
   -- numbers 9 and 10 leave the table filled
-  pub wires-table : (r : Check) (before after : List ℕ) → checkNumbers r ≡ networkFrom f b 9 → Filled f b after → RowsAfter f b r before after
+  pub wires-table : (r : Check) (before after : List ℕ) → checkAnswer r ≡ networkFrom f b 9 → Filled f b after → RowsAfter f b r before after
   unfolding networkFrom
   wires-table r before after e h = go (ltb (badEdge f b) (edgeCount b)) (ltb (badInput f b) (nodeCount b)) e
     where
-      go : (s t : Bool) → checkNumbers r ≡ cond s (refused 9 (edgeOffset f b (badEdge f b))) (cond t (refused 10 (nodeOffset f b (badInput f b))) fine) → RowsAfter f b r before after
+      go : (s t : Bool) → checkAnswer r ≡ cond s (refused 9 (edgeOffset f b (badEdge f b))) (cond t (refused 10 (nodeOffset f b (badInput f b))) (given f)) → RowsAfter f b r before after
       go true t q = rw q h
       go false true q = rw q h
       go false false q = rw q h
@@ -73,7 +74,7 @@ module _ (f : Form) (b : List ℕ) where
       unfolding networkFrom
       nodes-ownless part y e = rw (e, ← d, ← r, le-ltb _ _ m, ← o, y)
 
-      pub nodes-wires : (a : Check) → t ≡ false → checkNumbers a ≡ networkFrom f b 9 → checkNumbers a ≡ networkFrom f b 7
+      pub nodes-wires : (a : Check) → t ≡ false → checkAnswer a ≡ networkFrom f b 9 → checkAnswer a ≡ networkFrom f b 7
       unfolding networkFrom
       nodes-wires a y e =
           let nodes : ltb (badNode f b) (nodeCount b) ≡ false = rw (← d, ← r) (le-ltb _ _ m) in
@@ -89,7 +90,7 @@ module _ (f : Form) (b : List ℕ) where
       unfolding networkFrom
       parts-policy o l e = rw (← c, ← q, lt-ltb _ _ l, ← e)
 
-      pub parts-nodes : (a : Check) → p ≤ bad → checkNumbers a ≡ networkFrom f b 7 → checkNumbers a ≡ networkFrom f b 6
+      pub parts-nodes : (a : Check) → p ≤ bad → checkAnswer a ≡ networkFrom f b 7 → checkAnswer a ≡ networkFrom f b 6
       unfolding networkFrom
       parts-nodes a l e = let policies : ltb (badPolicy f b) (policyCount b) ≡ false = rw (← c, ← q) (le-ltb _ _ l) in rw policies e
 
@@ -100,7 +101,9 @@ module _ (f : Form) (b : List ℕ) where
     pub nodes-rise : (node : ℕ) → node ≡ firstBad (nodeOk f b) n → n ≤ node → Rising (nodeId f b) (nodeCount b)
     nodes-rise node r m = rw (← d) (ids-rise f b n (λ i l. first-all (nodeOk f b) n i (omega arith)))
 
-pub ruleset wires = (wires-edge, wires-input, wires-fine)
+pub ruleset wires = (wires-edge, wires-inputs)
+
+pub ruleset inputs = (inputs-ill, inputs-fine)
 
 pub ruleset nodes = (nodes-ill, nodes-ownless)
 
@@ -115,9 +118,9 @@ module _ (f : Form) (b : List ℕ) where
       unfolding manyParts
       many-edges l = rw (← cn, le-ltb _ _ ln, ← ce, lt-ltb _ _ l)
 
-      pub many-policies : e ≤ 4096 → ltb 64 (getD b 9 0) ≡ manyParts f b
+      pub many-policies : e ≤ 4096 → (p : ℕ) → p ≡ getD b 9 0 → ltb 64 p ≡ manyParts f b
       unfolding manyParts
-      many-policies l = rw (← cn, le-ltb _ _ ln, ← ce, le-ltb _ _ l)
+      many-policies l p cp = rw (← cn, le-ltb _ _ ln, ← ce, le-ltb _ _ l, ← cp)
 
   module _ (many : Bool) (c : many ≡ manyParts f b) where
     pub counts-many : many ≡ true → refused 3 5 ≡ networkFrom f b 2
@@ -143,7 +146,7 @@ module _ (f : Form) (b : List ℕ) where
           unfolding networkFrom
           counts-behind l = rw (← c, y, ← q, ← d, eq-eqb _ _ x, le-ltb _ _ g, lt-ltb _ _ l)
 
-          pub counts-parts : (a : Check) → length b ≤ t → checkNumbers a ≡ networkFrom f b 6 → checkNumbers a ≡ networkFrom f b 2
+          pub counts-parts : (a : Check) → length b ≤ t → checkAnswer a ≡ networkFrom f b 6 → checkAnswer a ≡ networkFrom f b 2
           unfolding networkFrom
           counts-parts a l e = rw (← c, y, ← q, ← d, eq-eqb _ _ x, le-ltb _ _ g, le-ltb _ _ l) e
 
@@ -156,13 +159,17 @@ module _ (b : List ℕ) where
   unfolding networkRefusal
   network-short l = rw (lt-ltb _ _ l)
 
-  module _ (h : 10 ≤ length b) where
-    pub network-version : (getD b 4 0 ≡ 1 → ⊥) → refused 2 4 ≡ networkRefusal b
+  module _ (h : 10 ≤ length b) (g : Formed) (k : g ≡ formed b) where
+    pub network-version : g ≡ Unknown → refused 2 4 ≡ networkRefusal b
     unfolding networkRefusal
-    network-version e = rw (le-ltb _ _ h, ne-eqb _ _ e)
+    network-version e = rw (le-ltb _ _ h, unnamed b (sym e ∙ k))
 
-    pub network-counts : (r : Check) → getD b 4 0 ≡ 1 → checkNumbers r ≡ networkFrom version1 b 2 → checkNumbers r ≡ networkRefusal b
+    pub network-counts : (f : Form) (r : Check) → g ≡ Of f → checkAnswer r ≡ networkFrom f b 2 → checkAnswer r ≡ networkRefusal b
     unfolding networkRefusal networkFrom
-    network-counts r v e = rw (le-ltb _ _ h, v) e
+    network-counts f r v e = let n = named-form b f (sym v ∙ k) in rw (le-ltb _ _ h, n .1, ← n .0) e
+
+    -- the table is that of the record's own form
+    pub rows-formed : (f : Form) (r : Check) (before after : List ℕ) → g ≡ Of f → RowsAfter f b r before after → RowsAfter (formOf b) b r before after
+    rows-formed f r before after v e = rw (← named-form b f (sym v ∙ k) .0) e
 
 pub ruleset network = (network-short, network-version, network-counts)

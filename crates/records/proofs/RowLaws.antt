@@ -1,97 +1,110 @@
--- Nodes by their row, and the table from ids to rows, as the code reads and fills them.
---     node-reads, owns     a node's id and kind, and the search for an own node
---     filling              the loop that fills the table
-use Prim.Native.Nat.{ℕ, _+_, _-_, _≤_, _<_}
+-- Rows and the table from ids to rows.
+--     ids-rise, row-..               the row of a node by its id, where ids rise
+--     mark-..                        what the table tells of an id
+--     rows-fine                      the table after a check that found nothing
+--     rows-read                      the row of an id by the table, as the code reads it
+--     filled-once, rows-after-once   there is one filled table, and one table after a check
+use Prim.Native.Nat.{ℕ, _+_, _<_, _≤_, _-_}
 use native.Mathlib.Omega.{arith}
-use mathlib.Core.Path.{_≡_, sym, ap, _∙_}
-use mathlib.Core.Bool.{Bool, true, false, not}
+use mathlib.Core.Path.{_≡_, refl, sym, _∙_}
+use mathlib.Core.Bool.{Bool, true, false, cond}
 use mathlib.Core.List.{List}
-use lib.Dec.{eqb}
-use lib.ListN.{length, getD, set, replicate, length-set, length-replicate, getD-replicate}
 use mir.Syntax.{w16}
 use mir.Val.{Fits}
-use Rattle.lists.specs.First.{Passed, passed-none, passed-more, every-yes, every-no}
-use Rattle.lists.specs.Index.{mark, Indexing, indexing-start, indexing-next, indexing-end}
-use Rattle.numbers.specs.BigEndian.{u16At}
-use Rattle.records.specs.Layout.{Room, nodeCount, nodeOffset}
-use Rattle.records.specs.Node.{nodeId, isOwn, ownless, rowOf}
+use lib.ListN.{length, getD}
+use lib.Seq.{ext-getD}
+use borrow.Author.Tests.{leb-true, ltb-true, lt-ltb}
+use Rattle.lists.specs.Rising.{Rising, least}
+use Rattle.lists.proofs.Rising.{least-rising, place-found, place-is}
+use Rattle.lists.proofs.Test.{and-l}
+use Rattle.layout.specs.Layout.{nodeCount, Room}
+use Rattle.nodes.specs.Node.{nodeId, nodeOk, rowOf}
 use Rattle.records.specs.Edge.{boxed}
-use Rattle.records.specs.Rows.{rowMark, Filled}
-use Rattle.records.specs.Offsets.{node-fields-room}
-use Rattle.records.specs.declared.Form.{Form}
+use Rattle.records.specs.Rows.{rowMark, Filled, FilledOrKept, RowsAfter, pastNodes}
+use Rattle.layout.specs.declared.Check.{Check}
+use Rattle.layout.specs.declared.Check.the-variants.{Fine}
+use Rattle.layout.specs.declared.Form.{Form}
+use Rattle.layout.specs.Refusals.{checkAnswer}
 
 module _ (f : Form) (b : List ℕ) where
-  module _ (i o : ℕ) (e : o ≡ nodeOffset f b i) where
-    pub row-id : (v : ℕ) → v ≡ u16At b o → v ≡ nodeId f b i
-    unfolding nodeId
-    row-id v h = rw (← e) h
+  -- nodes that are all well formed have rising ids
+  pub ids-rise : (n : ℕ) → ((i : ℕ) → i < n → nodeOk f b i ≡ true) → Rising (nodeId f b) n
+  unfolding nodeOk
+  ids-rise n h = least-rising (nodeId f b) n (λ k l. leb-true (least (nodeId f b) k) (nodeId f b k) (and-l _ _ (h k l)))
 
-    pub row-own : (t : Bool) → t ≡ eqb (getD b (o + 2) 0) 0 → t ≡ isOwn f b i
-    unfolding isOwn
-    row-own t h = rw (← e) h
+  module _ (id : ℕ) where
+    module _ (h : boxed f b id ≡ true) where
+      pub row-within : rowOf f b id < nodeCount b
+      unfolding boxed
+      row-within = ltb-true (rowOf f b id) (nodeCount b) h
 
-    module _ (r : Room f b) (l : i < nodeCount b) where
-      pub row-id-room : o + 2 ≤ length b
-      row-id-room = omega (arith, node-fields-room f b r i l)
+      pub row-found : nodeId f b (rowOf f b id) ≡ id
+      unfolding boxed rowOf
+      row-found = place-found (nodeId f b) id (nodeCount b) (ltb-true _ _ h)
 
-      pub row-kind-room : o + 2 < length b
-      row-kind-room = omega (arith, node-fields-room f b r i l)
+    -- a node with the id is in its row
+    pub row-is : (i : ℕ) → Rising (nodeId f b) (nodeCount b) → i < nodeCount b → nodeId f b i ≡ id → rowOf f b id ≡ i
+    unfolding rowOf
+    row-is i r l e = place-is (nodeId f b) id (nodeCount b) i r l e
 
-  -- what the search for an own node knows: the nodes before the i-th are none
-  unfoldable pub Ownless : ℕ → Type 0
-  Ownless i = Passed (λ k. not (isOwn f b k)) i
+    pub row-boxed : (i : ℕ) → Rising (nodeId f b) (nodeCount b) → i < nodeCount b → nodeId f b i ≡ id → boxed f b id ≡ true
+    unfolding boxed
+    row-boxed i r l e = rw (row-is i r l e) (lt-ltb i (nodeCount b) l)
 
-  pub ownless-start : Ownless 0
-  unfolding Ownless
-  ownless-start = passed-none _
+    module _ (rows : List ℕ) (v : ℕ) (filled : Filled f b rows) (m : id < 65536) (e : v ≡ getD rows id 0) where
+      mark-is : v ≡ cond (boxed f b id) (rowOf f b id + 1) 0
+      unfolding Filled rowMark
+      mark-is = e ∙ filled id m
 
-  module _ (i : ℕ) (h : Ownless i) (t : Bool) (e : t ≡ isOwn f b i) where
-    pub ownless-next : t ≡ false → Ownless (i + 1)
-    unfolding Ownless
-    ownless-next y = passed-more _ i h (ap not (sym e ∙ y))
+      pub mark-none : v ≡ 0 → boxed f b id ≡ false
+      mark-none z = go (boxed f b id) mark-is
+        where
+          go : (t : Bool) → v ≡ cond t (rowOf f b id + 1) 0 → t ≡ false
+          go true q = absurd (omega arith)
+          go false q = refl
 
-    pub ownless-not : (n : ℕ) → n ≡ nodeCount b → i < n → t ≡ true → false ≡ ownless f b
-    unfolding Ownless Passed ownless
-    ownless-not n c l y = rw (← c) (sym (every-no _ n i l h (ap not (sym e ∙ y))))
+      pub mark-boxed : (v ≡ 0 → ⊥) → boxed f b id ≡ true
+      mark-boxed z = go (boxed f b id) mark-is
+        where
+          go : (t : Bool) → v ≡ cond t (rowOf f b id + 1) 0 → t ≡ true
+          go true q = refl
+          go false q = absurd (z q)
 
-  pub ownless-end : (n i : ℕ) → n ≡ nodeCount b → n ≤ i → Ownless i → true ≡ ownless f b
-  unfolding Ownless Passed ownless
-  ownless-end n i c l h = rw (← c) (sym (every-yes _ n (λ k p. h k (omega arith))))
+      pub mark-row : boxed f b id ≡ true → v ≡ rowOf f b id + 1
+      mark-row h = mark-is ∙ rw h
 
-pub ruleset node-reads = (row-id, row-own, row-id-room, row-kind-room)
+pub filled-once : (f : Form) (b r s : List ℕ) → length r ≡ 65536 → length s ≡ 65536 → Filled f b r → Filled f b s → r ≡ s
+unfolding Filled
+filled-once f b r s p q h k = ext-getD 0 r s (p ∙ sym q) (λ i l. h i (omega arith) ∙ sym (k i (omega arith)))
 
-pub ruleset owns = (ownless-start, ownless-next, ownless-not, ownless-end)
+-- a check that found nothing left the table filled
+pub rows-fine : (f : Form) (b : List ℕ) (g : Form) (c : Check) (before after : List ℕ) → c ≡ Fine g → RowsAfter f b c before after → Filled f b after
+rows-fine f b g c before after e h = rw e at h
 
--- what the loop that fills the table knows: the rows from the i-th on are entered
-pub record Filling (f : Form) (b : List ℕ) (i : ℕ) (rows : List ℕ) : Type 0 where
-  pub within : i ≤ nodeCount b
-  pub long : length rows ≡ 65536
-  pub entered : Indexing (nodeId f b) (nodeCount b) 65536 i rows
+-- a contract that gives the table after a check allows one
+pub rows-after-once : (f : Form) (b : List ℕ) (c : Check) (before r s : List ℕ) → length r ≡ 65536 → length s ≡ 65536
+    → RowsAfter f b c before r → RowsAfter f b c before s → r ≡ s
+rows-after-once f b c before r s p q = go (pastNodes (checkAnswer c))
+  where
+    go : (t : Bool) → FilledOrKept f b t before r → FilledOrKept f b t before s → r ≡ s
+    go true h k = filled-once f b r s p q h k
+    go false h k = h ∙ sym k
 
-module _ (f : Form) (b rows : List ℕ) (i : ℕ) where
-  pub filling-start : i ≡ u16At b 5 → rows ≡ replicate 65536 0 → Filling f b i rows
-  filling-start e z = rw (e, z) (record {
-    within = omega arith;
-    long = length-replicate {A = ℕ} 65536 0;
-    entered = indexing-start _ _ _ _ (λ x l. getD-replicate 65536 x 0 0 l);
-  })
+-- the row of a node by its id
+module _ (f : Form) (b rows : List ℕ) (id row : ℕ) (filled : Filled f b rows) (h : boxed f b id ≡ true) (m : Fits w16 id) (e : row ≡ getD rows id 0) where
+  marked : row ≡ rowOf f b id + 1
+  marked = mark-row f b id rows row filled (omega arith) e h
 
-  module _ (h : Filling f b i rows) where
-    pub filling-row : 0 < i → i - 1 < nodeCount b
-    filling-row l = let m = h .within in omega arith
+  pub row-some : 1 ≤ row
+  row-some = omega (arith, marked)
 
-    pub filling-fits : Room f b → Fits w16 i
-    filling-fits r = let m = h .within in let k = r .few in let u = r .usable .few in omega arith
+  pub row-there : row - 1 ≡ rowOf f b id
+  row-there = omega (arith, marked)
 
-    pub filling-next : (id : ℕ) → 0 < i → Fits w16 id → id ≡ nodeId f b (i - 1) → Filling f b (i - 1) (set rows id i)
-    filling-next id l m d = record {
-      within = let p = h .within in omega arith;
-      long = length-set rows id i ∙ h .long;
-      entered = indexing-next _ _ _ _ i id (h .entered) l (h .within) (h .long) (omega arith) d;
-    }
+  pub row-below : row - 1 < nodeCount b
+  row-below = let w = row-within f b id h in omega (arith, marked)
 
-    pub filling-end : i ≤ 0 → Filled f b rows
-    unfolding Filled rowMark boxed rowOf mark
-    filling-end l = let z : i ≡ 0 = omega arith in indexing-end _ _ _ _ (rw z at (h .entered))
+  pub row-small : Room f b → row - 1 < 1024
+  row-small r = let w = row-below in let k = r .few in let u = r .usable .few in omega arith
 
-pub ruleset filling = (filling-start, filling-row, filling-fits, filling-next, filling-end)
+pub ruleset rows-read = (row-some, row-there, row-below, row-small)

@@ -7,9 +7,9 @@ use lib.ListN.{getD}
 use Rattle.lists.specs.First.{every}
 use Rattle.lists.specs.Rising.{least}
 use Rattle.numbers.specs.BigEndian.{u16At}
-use Rattle.records.specs.Layout.{nodeCount, policyCount, edgeCount, edgeOffset}
-use Rattle.records.specs.Node.{nodeId, isOwn, rowOf}
-use Rattle.records.specs.declared.Form.{Form}
+use Rattle.layout.specs.Layout.{nodeCount, policyCount, edgeCount, edgeOffset}
+use Rattle.nodes.specs.Node.{nodeId, isOwn, rowOf}
+use Rattle.layout.specs.declared.Form.{Form}
 
 module _ (f : Form) (b : List ℕ) where
   unfoldable pub edgeTo : ℕ → ℕ

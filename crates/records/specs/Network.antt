@@ -1,22 +1,20 @@
 -- What is refused of a network record: numbers 1 to 10, the first that applies (document 01, 'The numbers given back').
-use Prim.Native.Nat.{ℕ, _+_}
-use mathlib.Core.Bool.{Bool, not, _||_}
+use Prim.Native.Nat.{ℕ, _+_, _≤_, _<_}
+use mathlib.Core.Bool.{Bool, not, _||_, true, false}
 use mathlib.Core.List.{List, [], _∷_}
 use lib.Dec.{eqb, ltb}
-use lib.ListN.{length, getD, drop}
+use lib.ListN.{length, drop}
 use Rattle.lists.specs.First.{firstBad}
 use Rattle.lists.specs.Test.{firstOf}
 use Rattle.numbers.specs.BigEndian.{u32At}
-use Rattle.routes.specs.Form.{policyFormed}
-use Rattle.records.specs.Form.{version1}
-use Rattle.records.specs.Layout.{nodeCount, edgeCount, policyCount, policyOffset, nodePart, nodeOffset, edgeOffset, total}
-use Rattle.records.specs.Node.{nodeOk, ownless}
+use Rattle.layout.specs.Layout.{nodeCount, edgeCount, policyCount, policyOffset, nodePart, nodeOffset, edgeOffset, total}
+use Rattle.nodes.specs.Node.{nodeOk, ownless}
 use Rattle.records.specs.Edge.{edgeOk, inputOk}
-use Rattle.records.specs.Numbers.{Numbers, refused, fine}
-use Rattle.records.specs.declared.Form.{Form}
-
-unfoldable pub policyOk : List ℕ → ℕ → Bool
-policyOk b i = policyFormed b (policyOffset i)
+use Rattle.lists.specs.Answer.{refused, Answer, given}
+use Rattle.layout.specs.declared.Form.{Form}
+use Rattle.nodes.specs.Policy.{policyOk}
+use mathlib.Core.Path.{_≡_}
+use Rattle.layout.specs.Form.{formOf, versioned}
 
 module _ (f : Form) (b : List ℕ) where
   -- the first policy, node, edge and input with a fault, or their number
@@ -37,10 +35,10 @@ module _ (f : Form) (b : List ℕ) where
   manyParts = ltb (f .most) (nodeCount b) || (ltb 4096 (edgeCount b) || ltb 64 (policyCount b))
 
   -- the table, in the document's order; 1 stands twice
-  abbrev pub networkTable : List (Bool × Numbers)
+  abbrev pub networkTable : {A : Type 0} → List (Bool × Answer A)
   networkTable =
       (ltb (length b) 10, refused 1 (length b)) ∷
-      (not (eqb (getD b 4 0) 1), refused 2 4) ∷
+      (not (versioned f b), refused 2 4) ∷
       (manyParts, refused 3 5) ∷
       (not (eqb (u32At b 0 + 4) (total f b)), refused 4 0) ∷
       (ltb (length b) (total f b), refused 1 (length b)) ∷
@@ -52,10 +50,29 @@ module _ (f : Form) (b : List ℕ) where
       (ltb badInput (nodeCount b), refused 10 (nodeOffset f b badInput)) ∷
       []
 
-  -- number and place of the first that applies of the rows from the k-th on, or 0
-  unfoldable pub networkFrom : ℕ → Numbers
-  networkFrom k = firstOf (drop k networkTable) fine
+  -- the first that applies of the rows from the k-th on, or the record's form
+  unfoldable pub networkFrom : ℕ → Answer Form
+  networkFrom k = firstOf (drop k networkTable) (given f)
 
--- number and place of the first that applies, or 0
-unfoldable pub networkRefusal : List ℕ → Numbers
-networkRefusal b = firstOf (networkTable version1 b) fine
+-- the first that applies, or the record's form
+unfoldable pub networkRefusal : List ℕ → Answer Form
+networkRefusal b = firstOf (networkTable (formOf b) b) (given (formOf b))
+
+-- A network is sound where none of 1 to 10 applies.
+abbrev pub SoundRecord : List ℕ → Type 0
+SoundRecord b = networkRefusal b ≡ given (formOf b)
+
+-- the same, fact by fact
+pub record NetworkFine (f : Form) (b : List ℕ) : Type 0 where
+  pub long : 10 ≤ length b
+  pub version : versioned f b ≡ true
+  pub few-nodes : nodeCount b ≤ f .most
+  pub few-edges : edgeCount b ≤ 4096
+  pub few-policies : policyCount b ≤ 64
+  pub said : u32At b 0 + 4 ≡ total f b
+  pub whole : total f b ≡ length b
+  pub policies : (i : ℕ) → i < policyCount b → policyOk b i ≡ true
+  pub nodes : (i : ℕ) → i < nodeCount b → nodeOk f b i ≡ true
+  pub own : ownless f b ≡ false
+  pub edges : (j : ℕ) → j < edgeCount b → edgeOk f b j ≡ true
+  pub inputs : (i : ℕ) → i < nodeCount b → inputOk f b i ≡ true

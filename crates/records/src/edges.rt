@@ -4,16 +4,19 @@ ghost use Prim.Native.Nat.{_+_, _*_, _≤_, _<_};
 ghost use mathlib.Core.Bool.{true};
 ghost use lib.ListN.{length, set};
 ghost use Rattle.lists.specs.First.{firstBad};
-ghost use Rattle.lists.specs.Rising.{Rising, least};
+ghost use Rattle.lists.specs.Gather.{tableAfter};
+ghost use Rattle.lists.specs.Rising.{least};
 ghost use Rattle.numbers.specs.BigEndian.{u16At};
 ghost use Rattle.records.specs.Edge.{edgeKey, owned, endsFormed, edgeFormed, edgeOk, inputOk};
-ghost use Rattle.records.specs.Layout.{Room, nodeCount, edgeCount, edgeOffset};
-ghost use Rattle.records.specs.Node.{nodeId, rowOf};
-ghost use Rattle.records.specs.Rows.{Tabled, LeftMarked, keyAfter, leftAfter};
-use crate::Form;
-use crate::layout::edge_offset;
-use crate::layout::wide16;
-use crate::nodes::is_own;
+ghost use Rattle.layout.specs.Layout.{Room, nodeCount, edgeCount, edgeOffset};
+ghost use Rattle.nodes.specs.Node.{nodeId, rowOf};
+ghost use Rattle.records.specs.Rows.{Tabled, keyAfter, markedBy, Marked, anyEdge};
+use crate::rows::row_in;
+use layout::Form;
+use layout::POLICIES_FIELD;
+use layout::ROWS;
+use layout::edge_offset;
+use nodes::is_own;
 use numbers::u16_at;
 
 // Whether an own node has the id, by the table from ids to rows.
@@ -21,11 +24,10 @@ pub fn is_owned(form: Form, b: &[u8], rows: &[u16; 65536], id: u16) -> bool
     requires { ⌜ Tabled form (now b) (now rows) ⌝ }
     ensures { λ r. ⌜ r ≡ owned form (now (b .entry)) id ⌝ }
 {
-    let row = wide16(rows[id as usize]);
-    if row == 0 {
+    if rows[id as usize] == 0 {
         return false;
     }
-    is_own(form, b, row - 1)
+    is_own(form, b, row_in(form, b, rows, id))
 }
 
 // Whether both ends of an edge exist and differ, and the to end is own.
@@ -50,7 +52,7 @@ fn edge_formed(form: Form, b: &[u8], rows: &[u16; 65536], at: usize) -> bool
     if !ends_formed(form, b, rows, u16_at(b, at), u16_at(b, at + 2)) {
         return false;
     }
-    b[at + 4] < b[9]
+    b[at + 4] < b[POLICIES_FIELD]
 }
 
 // What the edges are sorted by: the to end, then the from end.
@@ -62,12 +64,11 @@ fn edge_key(b: &[u8], at: usize) -> usize
 }
 
 // Marks the row of the from end of the edge at an offset.
-fn mark_left(form: Form, b: &[u8], rows: &[u16; 65536], left: &mut [u8; 1024], at: usize)
+fn mark_left(form: Form, b: &[u8], rows: &[u16; 65536], left: &mut [u8; ROWS], at: usize)
     requires { ⌜ Tabled form (now b) (now rows) × (at + 5 ≤ length (now b)) × (edgeFormed form (now b) at ≡ true) ⌝ }
     ensures { λ _. ⌜ now (left .exit) ≡ set (now (left .entry)) (rowOf form (now (b .entry)) (u16At (now (b .entry)) (at + 2))) 1 ⌝ }
 {
-    let row = wide16(rows[u16_at(b, at + 2) as usize]);
-    left[row - 1] = 1;
+    left[row_in(form, b, rows, u16_at(b, at + 2))] = 1;
 }
 
 // Reads the j-th edge, which stands at an offset and whose key may be low at least. Where it is in order the row of its from
@@ -76,7 +77,7 @@ fn read_edge(
     form: Form,
     b: &[u8],
     rows: &[u16; 65536],
-    left: &mut [u8; 1024],
+    left: &mut [u8; ROWS],
     j: usize,
     at: usize,
     low: usize,
@@ -84,7 +85,7 @@ fn read_edge(
     requires { ⌜ Tabled form (now b) (now rows) × (j < edgeCount (now b)) ⌝ }
     requires { ⌜ (at ≡ edgeOffset form (now b) j) × (low ≡ least (edgeKey form (now b)) j) ⌝ }
     ensures next { λ r. ⌜ r ≡ keyAfter form (now (b .entry)) j ⌝ }
-    ensures marks { λ _. ⌜ now (left .exit) ≡ leftAfter form (now (b .entry)) j (now (left .entry)) ⌝ }
+    ensures marks { λ _. ⌜ now (left .exit) ≡ markedBy form (now (b .entry)) (edgeOk form (now (b .entry))) j (now (left .entry)) ⌝ }
 {
     let key = edge_key(b, at);
     if key < low {
@@ -98,11 +99,10 @@ fn read_edge(
 }
 
 // The first of n edges that is ill formed or does not rise, or n. Marks the rows that the edges before it leave.
-pub fn bad_edge(form: Form, b: &[u8], rows: &[u16; 65536], left: &mut [u8; 1024], n: usize) -> usize
-    requires { ⌜ Tabled form (now b) (now rows) × Rising (nodeId form (now b)) (nodeCount (now b)) × (n ≡ edgeCount (now b)) ⌝ }
-    requires { ⌜ (length (now left) ≡ 1024) × LeftMarked form (now b) 0 (now left) ⌝ }
+pub fn bad_edge(form: Form, b: &[u8], rows: &[u16; 65536], left: &mut [u8; ROWS], n: usize) -> usize
+    requires { ⌜ Tabled form (now b) (now rows) × (n ≡ edgeCount (now b)) ⌝ }
     ensures bad { λ r. ⌜ r ≡ firstBad (edgeOk form (now (b .entry))) n ⌝ }
-    ensures marks { λ r. ⌜ LeftMarked form (now (b .entry)) r (now (left .exit)) ⌝ }
+    ensures marks { λ r. ⌜ now (left .exit) ≡ tableAfter (markedBy form (now (b .entry)) anyEdge) r (now (left .entry)) ⌝ }
 {
     let mut j = 0;
     let mut o = edge_offset(form, b, 0);
@@ -119,8 +119,8 @@ pub fn bad_edge(form: Form, b: &[u8], rows: &[u16; 65536], left: &mut [u8; 1024]
 }
 
 // Whether the i-th node is an own one, or an input that an edge leaves.
-fn input_left(form: Form, b: &[u8], left: &[u8; 1024], i: usize) -> bool
-    requires { ⌜ Room form (now b) × (i < nodeCount (now b)) × LeftMarked form (now b) (edgeCount (now b)) (now left) ⌝ }
+fn input_left(form: Form, b: &[u8], left: &[u8; ROWS], i: usize) -> bool
+    requires { ⌜ Room form (now b) × (i < nodeCount (now b)) × Marked form (now b) anyEdge (edgeCount (now b)) (now left) ⌝ }
     ensures { λ r. ⌜ r ≡ inputOk form (now (b .entry)) i ⌝ }
 {
     if is_own(form, b, i) {
@@ -130,8 +130,8 @@ fn input_left(form: Form, b: &[u8], left: &[u8; 1024], i: usize) -> bool
 }
 
 // The first of n nodes that is an input without an edge out, or n.
-pub fn bad_input(form: Form, b: &[u8], left: &[u8; 1024], n: usize) -> usize
-    requires { ⌜ Room form (now b) × (n ≡ nodeCount (now b)) × LeftMarked form (now b) (edgeCount (now b)) (now left) ⌝ }
+pub fn bad_input(form: Form, b: &[u8], left: &[u8; ROWS], n: usize) -> usize
+    requires { ⌜ Room form (now b) × (n ≡ nodeCount (now b)) × Marked form (now b) anyEdge (edgeCount (now b)) (now left) ⌝ }
     ensures { λ r. ⌜ r ≡ firstBad (inputOk form (now (b .entry))) n ⌝ }
 {
     let mut i = 0;

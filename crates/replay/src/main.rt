@@ -1,26 +1,27 @@
 // Answers a stream of stored cases through the functions that the programs call: what it writes is held to answers that the
 // reference made.
 //
-// A case is one byte (0 judge, 1 cut, 2 cut into a lent buffer), the input's length as four bytes, and the input. Its answer is
-// the output's length as four bytes, and the output. Behind a 2 the input is the length of the buffer and the length of the
-// network, two bytes each, and then what the cutter reads: numbers 5 and 20 can be met there.
-ghost use mathlib.Core.Path.{_≡_};
+// A case is one byte, the number of a call, the input's length as four bytes, and the input. Its answer is the output's length as
+// four bytes, and the output. What each number calls is said in 'answer' and nowhere else.
 ghost use Prim.Native.Nat.{_≤_};
 ghost use lib.ListN.{length};
 use cutting::CutAnswer;
 use cutting::cut;
 use cutting::cut_bytes;
 use judging::judge_bytes;
+use layout::number_of;
 use libc::STDIN_FILENO;
 use libc::STDOUT_FILENO;
-use lines::put_refused;
+use lines::Line;
+use lines::place_line;
 use numbers::put_u32;
 use numbers::u16_at;
 use numbers::u32_at;
-use records::number_of;
-use records::place_of;
-use records::wide;
-use records::wide16;
+use numbers::wide;
+use numbers::wide16;
+
+// The most bytes of an input and of an answer.
+const ROOM: usize = 65536;
 
 // Cuts fragment k into the first room bytes of out. Answers how long the fragment is, or the line that refuses it.
 fn cut_within(network: &[u8], sheet: &[u8], k: u8, out: &mut [u8], room: usize) -> usize
@@ -28,11 +29,10 @@ fn cut_within(network: &[u8], sheet: &[u8], k: u8, out: &mut [u8], room: usize) 
 {
     match cut(network, sheet, k, &mut out[0..room]) {
         CutAnswer::Done(length) => length,
-        CutAnswer::Refused(refusal) => put_refused(
-            wide(number_of(refusal)),
-            place_of(refusal),
-            out,
-        ),
+        CutAnswer::Refused(refusal) => {
+            let class = refusal.class;
+            place_line(Line::Refused(wide(number_of(class)), refusal.place), out)
+        }
     }
 }
 
@@ -48,9 +48,10 @@ fn network_end(input: &[u8]) -> usize
     end
 }
 
-// A case with a lent buffer. Where the lengths are missing, so is the answer.
+// Cuts into a lent buffer: the input is the length of the buffer and the length of the network, two bytes each, and then what
+// the cutter reads, so that numbers 5 and 20 can be met. Where the lengths are missing, so is the answer.
 fn cut_lent(input: &[u8], out: &mut [u8]) -> usize
-    requires { ⌜ length (now out) ≡ 65536 ⌝ }
+    requires { ⌜ 65536 ≤ length (now out) ⌝ }
 {
     if input.len() < 4 {
         return 0;
@@ -64,22 +65,24 @@ fn cut_lent(input: &[u8], out: &mut [u8]) -> usize
     cut_within(&input[4..end], &input[behind..], input[end], out, room)
 }
 
-// The answer to a case: its length, and the answer itself at the start of out where it fits.
+// The answer to a case: its length, and the answer itself at the start of out where it fits. A number that calls nothing is
+// answered by a line that no case has, since no refusal is number 0.
 fn answer(call: u8, input: &[u8], out: &mut [u8]) -> usize
-    requires { ⌜ length (now out) ≡ 65536 ⌝ }
+    requires { ⌜ 65536 ≤ length (now out) ⌝ }
 {
     match call {
         0 => judge_bytes(input, out),
         1 => cut_bytes(input, out),
-        _ => cut_lent(input, out),
+        2 => cut_lent(input, out),
+        _ => place_line(Line::Refused(0, wide(call)), out),
     }
 }
 
 // Writes the answer to a case, and answers whether that was done. Every answer has room; one that had none would end the run.
 fn write_answer(call: u8, input: &[u8]) -> bool {
-    let mut out = [0u8; 65536];
+    let mut out = [0u8; ROOM];
     let length = answer(call, input, &mut out);
-    if 65536 < length {
+    if ROOM < length {
         return false;
     }
     let mut head = [0u8; 4];
@@ -106,10 +109,10 @@ fn answer_next() -> bool {
         return false;
     }
     let length = u32_at(&head, 1) as usize;
-    if 65536 < length {
+    if ROOM < length {
         return false;
     }
-    let mut room = [0u8; 65536];
+    let mut room = [0u8; ROOM];
     answer_input(head[0], &mut room[0..length])
 }
 

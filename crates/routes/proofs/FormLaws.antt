@@ -1,52 +1,23 @@
 -- Routes and policies as bytes, as the code reads and stores them.
---     zeros             a run of zero bytes, looked at and stored
 --     routes            its readers' and writers' ways
---     policies          its readers' and writers' ways
-use mathlib.Core.Path.{_≡_, refl, sym}
-use mathlib.Core.Bool.{Bool, true, false, cond}
+--     policies          its readers' ways
+use mathlib.Core.Path.{_≡_, refl}
+use mathlib.Core.Bool.{Bool, true, false}
 use mathlib.Core.List.{List, [], _∷_, _++_}
-use Prim.Native.Nat.{ℕ, _+_, _-_, _≤_, _<_}
+use Prim.Native.Nat.{ℕ, _+_, _-_}
 use native.Mathlib.Omega.{arith}
 use lib.Dec.{eqb}
 use lib.ListN.{getD, replicate, set, length-replicate}
 use lib.Seq.{sets}
-use borrow.Author.Tests.{eq-eqb, ne-eqb}
-use Rattle.lists.specs.First.{Passed, passed-none, passed-more, every-yes, every-no}
+use borrow.Author.Tests.{ne-eqb}
 use Rattle.lists.specs.Rows.{laidRows}
-use Rattle.lists.specs.Stores.{stored-on}
+use Rattle.lists.proofs.Laid.{stored-on}
 use Rattle.numbers.specs.BigEndian.{u16At, u16Bytes}
-use Rattle.routes.specs.Form.{zeros, fieldsAt, fieldsBytes, routeAt, routeBytes, routeFormed, policyAt, policyBytes, policyFormed}
+use Rattle.numbers.specs.Zeros.{zeros}
+use Rattle.routes.specs.Form.{fieldsAt, fieldsBytes, routeAt, routeBytes, routeFormed, policyAt, policyFormed}
 use Rattle.routes.specs.declared.Fields.{Fields}
-use Rattle.routes.specs.declared.Policy.{Policy}
 use Rattle.routes.specs.declared.Route.{Route}
 use Rattle.routes.specs.declared.Route.the-variants.{None, Held}
-
--- what the loop over a run of zeros knows: the bytes before the i-th are zero
-unfoldable pub Zeroed : List ℕ → ℕ → ℕ → Type 0
-Zeroed b o i = Passed (λ k. eqb (getD b (o + k) 0) 0) i
-
-module _ (b : List ℕ) (o : ℕ) where
-  pub zeroed-start : Zeroed b o 0
-  unfolding Zeroed
-  zeroed-start = passed-none _
-
-  pub zeroed-next : (i : ℕ) → Zeroed b o i → getD b (o + i) 0 ≡ 0 → Zeroed b o (i + 1)
-  unfolding Zeroed
-  zeroed-next i h e = passed-more _ i h (eq-eqb _ _ e)
-
-  pub zeroed-not : (n i : ℕ) → i < n → Zeroed b o i → (getD b (o + i) 0 ≡ 0 → ⊥) → false ≡ zeros b o n
-  unfolding Zeroed Passed zeros
-  zeroed-not n i l h e = sym (every-no _ n i l h (ne-eqb _ _ e))
-
-  pub zeroed-end : (n i : ℕ) → n ≤ i → Zeroed b o i → true ≡ zeros b o n
-  unfolding Zeroed Passed zeros
-  zeroed-end n i l h = sym (every-yes _ n (λ k p. h k (omega arith)))
-
-pub ruleset zeroing = (zeroed-start, zeroed-next, zeroed-not, zeroed-end)
-
--- the loop that stores a run of zeros, at its end
-pub zeros-put : (out out′ : List ℕ) (at n i : ℕ) → i ≤ n → n ≤ i → out′ ≡ sets out at (replicate i 0) → out′ ≡ sets out at (replicate n 0)
-zeros-put out out′ at n i h l e = let q : i ≡ n = omega arith in rw q at e
 
 -- routes
 module _ (w : ℕ) (b : List ℕ) (o : ℕ) where
@@ -124,15 +95,3 @@ module _ (b : List ℕ) (o : ℕ) where
   policy-read _ _ _ _ _ _ e₁ e₂ e₃ e₄ e₅ e₆ = rw (e₁, e₂, e₃, e₄, e₅, e₆)
 
 pub ruleset policies = (policy-unset, policy-set, policy-other)
-
-pub policy-put : (out a b c d : List ℕ) (at v : ℕ) (p : Policy) → v ≡ cond (p .flag) 1 0
-    → a ≡ sets out at (laidRows u16Bytes (p .need ∷ p .bar ∷ p .clear ∷ p .set ∷ [])) → b ≡ sets a (at + 8) (v ∷ [])
-    → c ≡ sets b (at + 9) (u16Bytes (p .preference)) → d ≡ sets c (at + 11) (u16Bytes (p .added))
-    → d ≡ sets out at (policyBytes p)
-unfolding policyBytes u16Bytes
-policy-put out a b c d at v p f e₁ e₂ e₃ e₄ =
-    let masks = laidRows u16Bytes (p .need ∷ p .bar ∷ p .clear ∷ p .set ∷ []) in
-    rw (← f)
-    (stored-on out c d at (at + 11) (masks ++ (v ∷ u16Bytes (p .preference))) (u16Bytes (p .added))
-    (stored-on out b c at (at + 9) (masks ++ (v ∷ [])) (u16Bytes (p .preference))
-    (stored-on out a b at (at + 8) masks (v ∷ []) e₁ refl e₂) refl e₃) refl e₄)

@@ -9,4 +9,3 @@ pub mod OrderLaws
 pub mod WireLaws
 pub mod MetLaws
 pub mod FormLaws
-pub mod PackedLaws

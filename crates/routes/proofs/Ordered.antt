@@ -5,8 +5,9 @@ use mathlib.Core.Bool.{true, false, _&&_, false≢true}
 use mathlib.Core.Logic.{_⊎_}
 use lib.Dec.{eqb}
 use borrow.Author.Tests.{eqb-true, eq-eqb}
-use Rattle.lists.specs.Best.{best, Order, decide-once, decide-none, decide-on, best-selective, best-commutative, best-associative}
-use Rattle.lists.specs.Test.{and-l, and-r}
+use Rattle.lists.specs.Best.{best}
+use Rattle.lists.proofs.Best.{Order, decide-once, decide-none, decide-on, best-selective, best-commutative, best-associative}
+use Rattle.lists.proofs.Test.{and-l, and-r}
 use Rattle.routes.specs.Order.{beats, same}
 use Rattle.routes.specs.declared.Fields.{Fields}
 use Rattle.routes.specs.declared.Route.{Route}

@@ -8,7 +8,8 @@ use native.Mathlib.Omega.{arith}
 use lib.Dec.{eqb}
 use lib.ListN.{getD}
 use borrow.Author.Tests.{eqb-true}
-use Rattle.lists.specs.Codec.{Codec, byte, pair, named, restated, Bytes}
+use Rattle.lists.proofs.Codec.{Codec, byte, pair, named, restated}
+use Rattle.lists.specs.Bytes.{Bytes}
 use Rattle.numbers.specs.BigEndian.{u16At, u16Bytes}
 use Rattle.numbers.proofs.Codecs.{u16, u16-below}
 use Rattle.routes.specs.Form.{policyAt, policyBytes, policyFormed}

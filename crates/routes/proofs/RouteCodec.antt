@@ -10,12 +10,14 @@ use native.Mathlib.Omega.{arith}
 use lib.Dec.{eqb}
 use lib.ListN.{getD, replicate, replicate-append-replicate}
 use borrow.Author.Tests.{eqb-true, eq-eqb}
-use Rattle.lists.specs.Codec.{Codec, byte, blank, pair, named, restated, Bytes}
-use Rattle.lists.specs.First.{every-all, every-yes}
-use Rattle.lists.specs.Test.{and-l, and-r, le-or-lt}
+use Rattle.lists.proofs.Codec.{Codec, byte, blank, pair, named, restated}
+use Rattle.lists.specs.Bytes.{Bytes}
+use Rattle.lists.proofs.First.{every-all, every-yes}
+use Rattle.lists.proofs.Test.{and-l, and-r, le-or-lt}
 use Rattle.numbers.specs.BigEndian.{u16At, u16Bytes}
 use Rattle.numbers.proofs.Codecs.{u16, u16-below}
-use Rattle.routes.specs.Form.{zeros, fieldsAt, fieldsBytes, routeAt, routeBytes, routeFormed}
+use Rattle.numbers.specs.Zeros.{zeros}
+use Rattle.routes.specs.Form.{fieldsAt, fieldsBytes, routeAt, routeBytes, routeFormed}
 use Rattle.routes.proofs.Ordered.{fields-ext}
 use Rattle.routes.specs.declared.Fields.{Fields}
 use Rattle.routes.specs.declared.Route.{Route}

@@ -12,8 +12,9 @@ use native.Mathlib.Omega.{arith}
 use lib.Bits.{bitAnd, bitOr, bitXor, and-shr, or-shr, xor-shr, and-mod, or-mod, xor-mod, and-le-r, and-mask, xor-add-and}
 use lib.Dec.{eqb}
 use borrow.Author.Tests.{eqb-true, eq-eqb, not-false}
-use Rattle.lists.specs.First.{firstBad, every, every-all}
-use Rattle.lists.specs.Test.{and-l, and-absorb}
+use Rattle.lists.specs.First.{firstBad, every}
+use Rattle.lists.proofs.First.{every-all}
+use Rattle.lists.proofs.Test.{and-l, and-absorb}
 use Rattle.routes.specs.Carry.{lacks, barred, newTags}
 use Rattle.routes.specs.declared.Fields.{Fields}
 use Rattle.routes.specs.declared.Policy.{Policy}

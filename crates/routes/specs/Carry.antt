@@ -10,6 +10,10 @@ use Rattle.routes.specs.declared.Policy.{Policy}
 use Rattle.routes.specs.declared.Route.{Route}
 use Rattle.routes.specs.declared.Route.the-variants.{None, Held}
 
+-- the highest cost that a wire may give
+abbrev pub highest : ℕ
+highest = 65535
+
 -- the route lacks a tag of need
 unfoldable pub lacks : Policy → Fields → Bool
 lacks p f = not (eqb (bitAnd (f .tags) (p .need)) (p .need))
@@ -20,7 +24,7 @@ barred p f = not (eqb (bitAnd (f .tags) (p .bar)) 0)
 
 -- the cost behind the wire is over the highest that a wire may give
 unfoldable pub dear : ℕ → Policy → Fields → Bool
-dear highest p f = ltb highest (f .cost + p .added)
+dear top p f = ltb top (f .cost + p .added)
 
 -- the tags behind the wire: they lose clear and then gain set
 unfoldable pub newTags : Policy → ℕ → ℕ
@@ -35,13 +39,13 @@ crossed p f = record {
   tags = newTags p (f .tags);
 }
 
--- need and bar look at the tags as they arrive
+-- Need and bar look at the tags as they arrive. top is the highest cost that the wire may give.
 unfoldable pub carried : ℕ → Policy → Route → Route
-carried highest p None = None
-carried highest p (Held f) =
+carried top p None = None
+carried top p (Held f) =
     firstOf
     ((lacks p f, None) ∷
     (barred p f, None) ∷
-    (dear highest p f, None) ∷
+    (dear top p f, None) ∷
     [])
     (Held (crossed p f))

@@ -5,17 +5,13 @@ use mathlib.Core.Bool.{Bool, cond, _&&_}
 use mathlib.Core.List.{List, [], _∷_, _++_}
 use lib.Dec.{eqb}
 use lib.ListN.{getD, replicate}
-use Rattle.lists.specs.First.{every}
 use Rattle.lists.specs.Rows.{laidRows}
 use Rattle.numbers.specs.BigEndian.{u16At, u16Bytes}
 use Rattle.routes.specs.declared.Fields.{Fields}
 use Rattle.routes.specs.declared.Policy.{Policy}
 use Rattle.routes.specs.declared.Route.{Route}
 use Rattle.routes.specs.declared.Route.the-variants.{None, Held}
-
--- n bytes from an offset on are zero
-unfoldable pub zeros : List ℕ → ℕ → ℕ → Bool
-zeros b o n = every (λ k. eqb (getD b (o + k) 0) 0) n
+use Rattle.numbers.specs.Zeros.{zeros}
 
 -- preference, cost, origin, tags
 unfoldable pub fieldsAt : List ℕ → ℕ → Fields

@@ -3,4 +3,3 @@ pub mod Order
 pub mod Carry
 pub mod Demand
 pub mod Form
-pub mod Packed

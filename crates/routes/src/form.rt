@@ -1,34 +1,21 @@
 // A route and a policy as a record's bytes, over the width of a route.
 ghost use mathlib.Core.Path.{_≡_};
 ghost use Prim.Native.Nat.{_+_, _≤_};
-ghost use mathlib.Core.Bool.{cond};
-ghost use lib.ListN.{length, replicate};
+ghost use lib.ListN.{length};
 ghost use lib.Seq.{sets};
 ghost use mathlib.Core.List.{[], _∷_};
 ghost use Rattle.lists.specs.Rows.{laidRows};
 ghost use Rattle.numbers.specs.BigEndian.{u16Bytes};
-ghost use Rattle.routes.specs.Form.{zeros, fieldsAt, routeAt, routeBytes, routeFormed, policyAt, policyBytes, policyFormed};
+ghost use Rattle.numbers.specs.Zeros.{zeros};
+ghost use Rattle.routes.specs.Form.{fieldsAt, routeAt, routeBytes, routeFormed, policyAt, policyFormed};
 use crate::Fields;
 use crate::Policy;
 use crate::Route;
+use numbers::all_zero;
 use numbers::put_u8;
 use numbers::put_u16;
+use numbers::put_zeros;
 use numbers::u16_at;
-
-// Whether the n bytes of b at an offset are zero.
-pub fn all_zero(b: &[u8], at: usize, n: usize) -> bool
-    requires { ⌜ at + n ≤ length (now b) ⌝ }
-    ensures { λ r. ⌜ r ≡ zeros (now (b .entry)) at n ⌝ }
-{
-    let mut i = 0;
-    while i < n {
-        if b[at + i] != 0 {
-            return false;
-        }
-        i += 1;
-    }
-    true
-}
 
 // Whether the width bytes of b at an offset are a route: a zero present byte has only zeros behind it.
 pub fn route_formed(width: usize, b: &[u8], at: usize) -> bool
@@ -62,18 +49,6 @@ pub fn route_at(width: usize, b: &[u8], at: usize) -> Route
     match b[at] {
         0 => Route::None,
         _ => Route::Held(fields_at(b, at + 1 + (width - 9))),
-    }
-}
-
-// Stores n zero bytes of out at an offset. The other bytes keep their values.
-pub fn put_zeros(out: &mut [u8], at: usize, n: usize)
-    requires { ⌜ at + n ≤ length (now out) ⌝ }
-    ensures { λ _. ⌜ now (out .exit) ≡ sets (now (out .entry)) at (replicate n 0) ⌝ }
-{
-    let mut i = 0;
-    while i < n {
-        out[at + i] = 0;
-        i += 1;
     }
 }
 
@@ -135,21 +110,4 @@ pub fn policy_at(b: &[u8], at: usize) -> Policy
         preference: u16_at(b, at + 9),
         added: u16_at(b, at + 11),
     }
-}
-
-fn flag_byte(flag: bool) -> u8
-    ensures { λ r. ⌜ r ≡ cond flag 1 0 ⌝ }
-{
-    if flag { 1 } else { 0 }
-}
-
-// Stores a policy as 13 bytes of out at an offset. The other bytes keep their values.
-pub fn put_policy(out: &mut [u8], at: usize, policy: Policy)
-    requires { ⌜ at + 13 ≤ length (now out) ⌝ }
-    ensures { λ _. ⌜ now (out .exit) ≡ sets (now (out .entry)) at (policyBytes policy) ⌝ }
-{
-    put_four(out, at, policy.need, policy.bar, policy.clear, policy.set);
-    put_u8(out, at + 8, flag_byte(policy.flag));
-    put_u16(out, at + 9, policy.preference);
-    put_u16(out, at + 11, policy.added);
 }

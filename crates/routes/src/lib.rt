@@ -5,22 +5,17 @@
 mod form;
 mod met;
 mod order;
-mod packed;
 mod wire;
 
-pub use form::all_zero;
 pub use form::policy_at;
 pub use form::policy_formed;
-pub use form::put_policy;
 pub use form::put_route;
-pub use form::put_zeros;
 pub use form::route_at;
 pub use form::route_formed;
 pub use met::is_met;
 pub use order::better;
 pub use order::same;
-pub use packed::packed_at;
-pub use packed::route_in;
+pub use wire::HIGHEST;
 pub use wire::carry;
 
 // A route that is there.

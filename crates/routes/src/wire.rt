@@ -13,9 +13,12 @@ fn chosen(flag: bool, replaced: u16, kept: u16) -> u16
     if flag { replaced } else { kept }
 }
 
-// The route behind a wire with this policy, where highest is the highest cost that a wire may give.
-pub fn carry(highest: u16, policy: Policy, route: Route) -> Route
-    ensures { λ r. ⌜ r ≡ carried highest policy route ⌝ }
+// The highest cost that a wire may give.
+pub const HIGHEST: u16 = 65535;
+
+// The route behind a wire with this policy, where top is the highest cost that the wire may give.
+pub fn carry(top: u16, policy: Policy, route: Route) -> Route
+    ensures { λ r. ⌜ r ≡ carried top policy route ⌝ }
 {
     let Route::Held(f) = route else {
         return Route::None;
@@ -30,10 +33,10 @@ pub fn carry(highest: u16, policy: Policy, route: Route) -> Route
     }
     let cost = f.cost;
     let added = policy.added;
-    if highest < cost {
+    if top < cost {
         return Route::None;
     }
-    if highest - cost < added {
+    if top - cost < added {
         return Route::None;
     }
     Route::Held(Fields {

@@ -1,19 +1,22 @@
 //! Inputs of various sizes: a scene, and a list or sheet for it that is right or not quite.
 
-use crate::damage::Input;
-use crate::plan::{list_record, sheet_record, Listed, Noted};
+use crate::form::{Form, EDGE, MOST_EDGES, MOST_POLICIES};
+use crate::input::Input;
+use crate::plan::{Listed, Noted};
 use crate::random::Random;
-use crate::record::{EDGE, LIST_ENTRY, MOST_EDGES, MOST_ENTRIES, MOST_NODES, MOST_POLICIES};
+use crate::route::{Route, TOP};
 use crate::scene::{self, other_route, Dress, Ids, Scene, Style};
 use crate::shapes::{self, Shape};
 
 const STYLES: [Style; 4] = [Style::Plain, Style::Steady, Style::Preferring, Style::Wild];
 
 /// A scene of up to ten boxes.
-pub fn small(random: &mut Random) -> Scene {
+pub fn small(form: Form, random: &mut Random) -> Scene {
     let boxes = *random.pick(&[1, 2, 3, 3, 4, 4, 5, 5, 6, 7, 8, 10]);
     let shape = some_shape(boxes, random);
     let dress = Dress {
+        form,
+        top: TOP,
         ids: some_ids(shape.boxes, random),
         style: *random.pick(&STYLES),
         policies: random.within(1, 4),
@@ -25,7 +28,7 @@ pub fn small(random: &mut Random) -> Scene {
 }
 
 /// A scene of some dozens of boxes.
-pub fn middling(random: &mut Random) -> Scene {
+pub fn middling(form: Form, random: &mut Random) -> Scene {
     let boxes = random.within(20, 120);
     let shape = if random.one_in(4) {
         shapes::fat_tree(4)
@@ -33,6 +36,8 @@ pub fn middling(random: &mut Random) -> Scene {
         some_shape(boxes, random)
     };
     let dress = Dress {
+        form,
+        top: TOP,
         ids: some_ids(shape.boxes, random),
         style: *random.pick(&STYLES),
         policies: random.within(1, 12),
@@ -71,14 +76,17 @@ fn some_shape(boxes: usize, random: &mut Random) -> Shape {
 }
 
 fn some_ids(boxes: usize, random: &mut Random) -> Ids {
-    let last = (65_536 - boxes) as u16;
     *random.pick(&[
         Ids::From(1),
         Ids::From(0),
-        Ids::From(last),
+        highest_ids(boxes),
         Ids::Sparse,
         Ids::Sparse,
     ])
+}
+
+fn highest_ids(boxes: usize) -> Ids {
+    Ids::From((65_536 - boxes) as u16)
 }
 
 /// A judge's input: the list passes, or something is amiss in it or in what is asked.
@@ -102,9 +110,9 @@ pub fn judge(mut scene: Scene, random: &mut Random) -> Input {
         }
     }
     if random.one_in(3) {
-        add_strangers(&mut list, |id, random| (id, some_route(random)), random);
+        add_listed_strangers(&scene, &mut list, random);
     }
-    Input::judge(scene.plan.record(), list_record(&list))
+    Input::judge(&scene.plan, &list)
 }
 
 /// A cutter's input: the sheet cuts, mostly, and the fragment asked is there, mostly.
@@ -125,12 +133,12 @@ pub fn cut(mut scene: Scene, random: &mut Random) -> Input {
     };
     if random.one_in(3) {
         let stranger = |id, random: &mut Random| (id, random.below(64) as u8, some_route(random));
-        add_strangers(&mut sheet, stranger, random);
+        add_strangers(&scene, &mut sheet, stranger, random);
     }
-    Input::cut(scene.plan.record(), asked, sheet_record(&sheet))
+    Input::cut(&scene.plan, asked, &sheet)
 }
 
-fn some_route(random: &mut Random) -> Option<crate::route::Route> {
+fn some_route(random: &mut Random) -> Option<Route> {
     (!random.one_in(3)).then(|| scene::route(Style::Wild, 0, random))
 }
 
@@ -169,6 +177,7 @@ impl Entry for Noted {
 
 /// Adds entries for ids that are no own node's: inputs, or nobody.
 fn add_strangers<E: Entry>(
+    scene: &Scene,
     entries: &mut Vec<E>,
     make: impl Fn(u16, &mut Random) -> E,
     random: &mut Random,
@@ -179,15 +188,21 @@ fn add_strangers<E: Entry>(
         let id = *random.pick(&[near.wrapping_add(1), near.wrapping_sub(1), far]);
         let place = entries.partition_point(|entry| entry.id() < id);
         let taken = entries.get(place).is_some_and(|entry| entry.id() == id);
-        if !taken && entries.len() < MOST_ENTRIES {
+        if !taken && entries.len() < scene.plan.form.most {
             entries.insert(place, make(id, random));
         }
     }
 }
 
+fn add_listed_strangers(scene: &Scene, list: &mut Vec<Listed>, random: &mut Random) {
+    add_strangers(scene, list, |id, random| (id, some_route(random)), random);
+}
+
 /// A scene of the most boxes, wires and policies.
-fn largest_scene(shape: &Shape, ids: Ids, inputs: usize, random: &mut Random) -> Scene {
+fn largest_scene(form: Form, shape: &Shape, ids: Ids, inputs: usize, random: &mut Random) -> Scene {
     let dress = Dress {
+        form,
+        top: TOP,
         ids,
         style: Style::Steady,
         policies: MOST_POLICIES,
@@ -201,58 +216,60 @@ fn largest_scene(shape: &Shape, ids: Ids, inputs: usize, random: &mut Random) ->
 }
 
 /// A fat-tree of 16 pods with all wires, and boxes without any to make the most.
-fn padded_fat_tree() -> Shape {
+fn padded_fat_tree(form: Form) -> Shape {
     Shape {
-        boxes: MOST_NODES,
+        boxes: form.most,
         ..shapes::fat_tree(16)
     }
 }
 
 /// Every shape that the largest records come in.
-fn largest_scenes(random: &mut Random) -> Vec<Scene> {
-    let r = random;
-    let scattered = shapes::scattered(MOST_NODES, MOST_EDGES, r);
-    let ring = shapes::ring_with_chords(MOST_NODES, MOST_EDGES, r);
-    vec![
-        largest_scene(&scattered, Ids::Sparse, 0, r),
-        largest_scene(&ring, Ids::From(1), 0, r),
-        largest_scene(&padded_fat_tree(), Ids::From(0), 0, r),
-        largest_scene(&scattered, Ids::Sparse, 60, r),
-        largest_scene(&shapes::star(MOST_NODES), Ids::From(65_024), 0, r),
-        largest_scene(&shapes::grid(16, 32), Ids::Sparse, 20, r),
+fn largest_scenes(form: Form, random: &mut Random) -> Vec<Scene> {
+    let (most, r) = (form.most, random);
+    let scattered = shapes::scattered(most, MOST_EDGES, r);
+    let ring = shapes::ring_with_chords(most, MOST_EDGES, r);
+    let (star, grid) = (shapes::star(most), shapes::grid(16, most / 16));
+    [
+        (&scattered, Ids::Sparse, 0),
+        (&ring, Ids::From(1), 0),
+        (&padded_fat_tree(form), Ids::From(0), 0),
+        (&scattered, Ids::Sparse, 60),
+        (&star, highest_ids(most), 0),
+        (&grid, Ids::Sparse, 20),
     ]
+    .map(|(shape, ids, inputs)| largest_scene(form, shape, ids, inputs, r))
+    .into()
 }
 
 /// The largest list: one entry for each own node, and strangers up to the most.
 fn full_list(scene: &Scene, random: &mut Random) -> Vec<Listed> {
     let mut list = scene.list();
-    while list.len() < MOST_ENTRIES {
-        add_strangers(&mut list, |id, random| (id, some_route(random)), random);
+    while list.len() < scene.plan.form.most {
+        add_listed_strangers(scene, &mut list, random);
     }
     list
 }
 
 /// One input of exactly the judge's bound, which passes.
-pub fn largest_judge(random: &mut Random) -> Input {
-    let shape = shapes::scattered(MOST_NODES, MOST_EDGES, random);
-    let scene = largest_scene(&shape, Ids::Sparse, 0, random);
+pub fn largest_judge(form: Form, random: &mut Random) -> Input {
+    let shape = shapes::scattered(form.most, MOST_EDGES, random);
+    let scene = largest_scene(form, &shape, Ids::Sparse, 0, random);
     let list = full_list(&scene, random);
-    Input::judge(scene.plan.record(), list_record(&list))
+    Input::judge(&scene.plan, &list)
 }
 
 /// The largest inputs: passes, findings and refusals near the end, and cuts.
-pub fn largest(random: &mut Random) -> Vec<Input> {
+pub fn largest(form: Form, random: &mut Random) -> Vec<Input> {
     let mut inputs = Vec::new();
-    for (row, scene) in largest_scenes(random).iter().enumerate() {
-        let network = scene.plan.record();
+    for (row, scene) in largest_scenes(form, random).iter().enumerate() {
         let list = full_list(scene, random);
-        inputs.push(Input::judge(network.clone(), list_record(&list)));
+        let judge = Input::judge(&scene.plan, &list);
+        inputs.push(judge.clone());
         inputs.push(late_finding(scene, &list, row, random));
-        inputs.push(late_refusal(network, list_record(&list), row));
+        inputs.push(late_refusal(judge, row));
         let parts = [64, 4, 16, 1, 8, 2][row];
-        let numbers: Vec<u8> = (0..MOST_NODES).map(|row| (row % parts) as u8).collect();
-        let sheet = sheet_record(&scene.sheet(&numbers));
-        inputs.push(Input::cut(scene.plan.record(), 0, sheet));
+        let numbers: Vec<u8> = (0..form.most).map(|row| (row % parts) as u8).collect();
+        inputs.push(Input::cut(&scene.plan, 0, &scene.sheet(&numbers)));
     }
     inputs
 }
@@ -270,16 +287,18 @@ fn late_finding(scene: &Scene, list: &[Listed], turn: usize, random: &mut Random
         1 => scene.spoil_promise(random),
         _ => scene.spoil_demand(random),
     }
-    Input::judge(scene.plan.record(), list_record(&list))
+    Input::judge(&scene.plan, &list)
 }
 
 /// A damage at the end of the network, or of the list.
-fn late_refusal(mut network: Vec<u8>, mut list: Vec<u8>, turn: usize) -> Input {
-    let (edge, entry) = (network.len() - EDGE, list.len() - LIST_ENTRY);
+fn late_refusal(mut input: Input, turn: usize) -> Input {
+    let (network, list) = (&mut input.network, &mut input.second);
+    let edge = network.len() - EDGE;
+    let route = list.len() - input.form.route;
     match turn % 3 {
         0 => network[edge + 4] = MOST_POLICIES as u8,
-        1 => list[entry + 2] = 2,
+        1 => list[route] = 2,
         _ => network.copy_within(edge..edge + 2, edge + 2),
     }
-    Input::judge(network, list)
+    input
 }

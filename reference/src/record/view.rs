@@ -1,41 +1,66 @@
 //! Views of records that have passed the check: they lend parts of the record and decode a field
 //! when it is asked for.
 
-use super::{at, EDGE, LIST_ENTRY, NODE, SHEET_ENTRY};
-use crate::route::{self, Demand, Policy, Promise, Route, ROUTE};
+use crate::form::{Form, ASKS, EDGE, KIND, MOST, ROUTE};
+use crate::route::{self, Demand, Policy, Promise, Route};
 
-/// Where each id stands among the nodes. Rows are kept plus one, so that zero says "no node".
+/// Where each id stands among the nodes, and which rows are own nodes. Rows are kept plus one, so
+/// that zero says "no node".
 pub struct Table {
     rows: [u16; 65_536],
+    own: [bool; MOST],
 }
 
 impl Table {
     #[inline]
     pub fn empty() -> Table {
-        Table { rows: [0; 65_536] }
+        Table {
+            rows: [0; 65_536],
+            own: [false; MOST],
+        }
     }
 
-    pub fn put(&mut self, id: u16, row: usize) {
-        self.rows[usize::from(id)] = row as u16 + 1;
+    pub fn put(&mut self, row: usize, node: Node) {
+        self.rows[usize::from(node.id())] = row as u16 + 1;
+        self.own[row] = node.is_own();
     }
 
     #[inline]
     pub fn row(&self, id: u16) -> Option<usize> {
         usize::from(self.rows[usize::from(id)]).checked_sub(1)
     }
+
+    #[inline]
+    pub fn is_own(&self, row: usize) -> bool {
+        self.own[row]
+    }
+
+    pub fn has_own(&self) -> bool {
+        self.own.contains(&true)
+    }
 }
 
 /// A sound network, its parts lent.
 #[derive(Clone, Copy)]
 pub struct Network<'a> {
+    pub form: Form,
     pub(super) policies: &'a [u8],
     pub(super) nodes: &'a [u8],
     pub(super) edges: &'a [u8],
 }
 
-/// One node of a sound network.
+/// One node, its parts lent.
 #[derive(Clone, Copy)]
-pub struct Node<'a>(pub &'a [u8; NODE]);
+pub struct Node<'a> {
+    pub bytes: &'a [u8],
+    /// The initial route of an own node, the assumed one of an input.
+    pub route_bytes: &'a [u8],
+    pub promised_bytes: &'a [u8],
+    /// The promise flag.
+    pub flag: u8,
+    /// The demand, its ceiling and its tags.
+    pub asks: &'a [u8; ASKS],
+}
 
 #[derive(Clone, Copy, Debug, PartialEq, Eq)]
 pub struct Edge {
@@ -46,12 +71,10 @@ pub struct Edge {
 
 /// A well-formed sheet or list: rising ids, each entry ending in a route.
 #[derive(Clone, Copy)]
-pub struct Entries<'a, const SIZE: usize> {
+pub struct Entries<'a, const LEAD: usize> {
+    pub(super) form: Form,
     pub(super) part: &'a [u8],
 }
-
-pub type Sheet<'a> = Entries<'a, SHEET_ENTRY>;
-pub type List<'a> = Entries<'a, LIST_ENTRY>;
 
 impl<'a> Network<'a> {
     pub fn policies(&self) -> impl ExactSizeIterator<Item = Policy> + 'a {
@@ -59,7 +82,9 @@ impl<'a> Network<'a> {
     }
 
     pub fn nodes(&self) -> impl ExactSizeIterator<Item = Node<'a>> {
-        rows(self.nodes).map(Node)
+        let form = self.form;
+        let rows = self.nodes.chunks_exact(form.node());
+        rows.map(move |bytes| Node::of(bytes, form))
     }
 
     pub fn edges(&self) -> impl ExactSizeIterator<Item = Edge> + 'a {
@@ -67,7 +92,8 @@ impl<'a> Network<'a> {
     }
 
     pub fn node(&self, row: usize) -> Node<'a> {
-        Node(part_at(self.nodes, row * NODE))
+        let size = self.form.node();
+        Node::of(&self.nodes[row * size..][..size], self.form)
     }
 
     pub fn policy_part(&self) -> &'a [u8] {
@@ -80,45 +106,59 @@ impl<'a> Network<'a> {
 }
 
 impl<'a> Node<'a> {
+    #[inline]
+    fn of(bytes: &'a [u8], form: Form) -> Node<'a> {
+        Node {
+            bytes,
+            route_bytes: &bytes[ROUTE..form.flag()],
+            promised_bytes: &bytes[form.promised()..form.demand()],
+            flag: bytes[form.flag()],
+            asks: part_at(bytes, form.demand()),
+        }
+    }
+
+    #[inline]
     pub fn id(self) -> u16 {
-        number_at(self.0, at::ID)
+        number_at(self.bytes, 0)
     }
 
+    #[inline]
+    pub fn kind(self) -> u8 {
+        self.bytes[KIND]
+    }
+
+    #[inline]
     pub fn is_own(self) -> bool {
-        self.0[at::KIND] == 0
+        self.kind() == 0
     }
 
-    /// The initial route of an own node, the assumed one of an input.
-    pub fn route_bytes(self) -> &'a [u8; ROUTE] {
-        part_at(self.0, at::ROUTE)
-    }
-
+    #[inline]
     pub fn route(self) -> Option<Route> {
-        route::read(self.route_bytes())
+        route::read(self.route_bytes)
     }
 
+    #[inline]
     pub fn has_promise(self) -> bool {
-        self.0[at::FLAG] == 1
+        self.flag == 1
     }
 
-    pub fn promised_bytes(self) -> &'a [u8; ROUTE] {
-        part_at(self.0, at::PROMISED)
-    }
-
+    #[inline]
     pub fn promise(self) -> Promise {
         if self.has_promise() {
-            Promise::Holds(route::read(self.promised_bytes()))
+            Promise::Holds(route::read(self.promised_bytes))
         } else {
             Promise::Nothing
         }
     }
 
+    #[inline]
     pub fn demand(self) -> Demand {
-        match self.0[at::DEMAND] {
+        let [demand, c1, c0, t1, t0] = *self.asks;
+        match demand {
             0 => Demand::Nothing,
             1 => Demand::Route {
-                ceiling: number_at(self.0, at::CEILING),
-                tags: number_at(self.0, at::TAGS),
+                ceiling: u16::from_be_bytes([c1, c0]),
+                tags: u16::from_be_bytes([t1, t0]),
             },
             _ => Demand::NoRoute,
         }
@@ -135,17 +175,9 @@ impl Edge {
     }
 }
 
-impl<'a, const SIZE: usize> Entries<'a, SIZE> {
-    pub fn rows(&self) -> impl ExactSizeIterator<Item = &'a [u8; SIZE]> {
-        rows(self.part)
-    }
-
-    pub fn id(entry: &[u8; SIZE]) -> u16 {
-        number_at(entry, 0)
-    }
-
-    pub fn route_bytes(entry: &[u8; SIZE]) -> &[u8; ROUTE] {
-        part_at(entry, SIZE - ROUTE)
+impl<'a, const LEAD: usize> Entries<'a, LEAD> {
+    pub fn rows(&self) -> impl ExactSizeIterator<Item = &'a [u8]> {
+        self.part.chunks_exact(self.form.entry(LEAD))
     }
 }
 

@@ -7,8 +7,9 @@ use std::collections::BTreeMap;
 /// Preference, cost, origin, tags.
 type Fields = Option<[u16; 4]>;
 
-fn fields(nine: &[u8]) -> Fields {
-    (nine[0] == 1).then(|| [1, 3, 5, 7].map(|at| word(nine, at)))
+fn fields(route: &[u8]) -> Fields {
+    let last = &route[route.len() - 8..];
+    (route[0] == 1).then(|| [0, 2, 4, 6].map(|at| word(last, at)))
 }
 
 fn carried(policy: &[u8], held: Fields) -> Fields {
@@ -29,7 +30,7 @@ fn held(rows: &Rows, list: &BTreeMap<u16, &[u8]>, id: u16) -> Fields {
     let node = nodes.find(|node| word(node, 0) == id).expect("a node");
     match node[2] {
         0 => fields(&list[&id][2..]),
-        _ => fields(&node[3..]),
+        _ => fields(rows.form.initial(node)),
     }
 }
 
@@ -40,13 +41,13 @@ fn due(rows: &Rows, list: &BTreeMap<u16, &[u8]>, node: &[u8]) -> Fields {
         let policy = rows.policies[usize::from(edge[4])];
         carried(policy, held(rows, list, word(edge, 2)))
     });
-    let all = arrives.chain([fields(&node[3..])]).flatten();
+    let all = arrives.chain([fields(rows.form.initial(node))]).flatten();
     all.max_by_key(|[p, c, o, t]| (*p, Reverse(*c), Reverse(*o), Reverse(*t)))
 }
 
-fn met(node: &[u8], held: Fields) -> bool {
-    let [ceiling, tags] = [23, 25].map(|at| word(node, at));
-    match (node[22], held) {
+fn met(asks: &[u8], held: Fields) -> bool {
+    let [ceiling, tags] = [1, 3].map(|at| word(asks, at));
+    match (asks[0], held) {
         (0, _) | (2, None) => true,
         (1, Some(route)) => route[1] <= ceiling && tags & !route[3] == 0,
         _ => false,
@@ -55,16 +56,17 @@ fn met(node: &[u8], held: Fields) -> bool {
 
 /// The judge's line.
 pub fn judge(network: &[u8], list: &[u8]) -> Result<String, Refused> {
-    let (rows, list) = both(network, list, 11)?;
+    let (rows, list) = both(network, list, 2)?;
+    let form = rows.form;
     let own = rows.nodes.iter().filter(|node| node[2] == 0);
     for (before, node) in own.clone().enumerate() {
         let id = word(node, 0);
         let held = held(&rows, &list, id);
-        let (due, promised) = (due(&rows, &list, node), fields(&node[13..]));
+        let (due, promised) = (due(&rows, &list, node), fields(form.promised(node)));
         let faults = [
             (held != due, 31, due),
-            (node[12] == 1 && held != promised, 32, promised),
-            (!met(node, held), 33, held),
+            (form.flag(node) == 1 && held != promised, 32, promised),
+            (!met(form.asks(node), held), 33, held),
         ];
         if let Some((_, number, route)) = faults.iter().find(|fault| fault.0) {
             let words = route.map(|route| route.map(|word| word.to_string()).join(" "));
@@ -110,13 +112,17 @@ impl Cut<'_> {
     }
 
     fn node(&self, node: &[u8]) -> Vec<u8> {
-        let id = word(node, 0);
+        let (id, form) = (word(node, 0), self.rows.form);
+        let (flag, demand) = (3 + form.route, 4 + 2 * form.route);
         match (self.inside(id), self.feeds(id), self.rows.is_own(id)) {
-            (true, ..) if node[12] == 0 && self.leaves(id) => {
-                [&node[..12], &[1], self.note(id), &node[22..]].concat()
+            (true, ..) if node[flag] == 0 && self.leaves(id) => {
+                [&node[..flag], &[1], self.note(id), &node[demand..]].concat()
             }
             (true, ..) | (_, true, false) => node.to_vec(),
-            (_, true, true) => [&node[..2], &[1], self.note(id), &[0; 15]].concat(),
+            (_, true, true) => {
+                let zeros = vec![0; node.len() - flag];
+                [&node[..2], &[1], self.note(id), &zeros].concat()
+            }
             _ => vec![],
         }
     }
@@ -124,7 +130,8 @@ impl Cut<'_> {
 
 /// The fragment.
 pub fn cut(network: &[u8], asked: u8, sheet: &[u8]) -> Result<Vec<u8>, Refused> {
-    let (rows, sheet) = both(network, sheet, 12)?;
+    let (rows, sheet) = both(network, sheet, 3)?;
+    let form = rows.form;
     let cut = Cut { rows, sheet, asked };
     let nodes = &cut.rows.nodes;
     if !nodes.iter().any(|node| cut.inside(word(node, 0))) {
@@ -132,7 +139,7 @@ pub fn cut(network: &[u8], asked: u8, sheet: &[u8]) -> Result<Vec<u8>, Refused> 
     }
     let breaks = |node: &&&[u8]| {
         let id = word(node, 0);
-        node[12] == 1 && cut.leaves(id) && node[13..22] != *cut.note(id)
+        form.flag(node) == 1 && cut.leaves(id) && form.promised(node) != cut.note(id)
     };
     if let Some(node) = nodes.iter().find(breaks) {
         return Err((19, word(node, 0).into()));
@@ -140,8 +147,8 @@ pub fn cut(network: &[u8], asked: u8, sheet: &[u8]) -> Result<Vec<u8>, Refused> 
     let nodes: Vec<u8> = nodes.iter().flat_map(|node| cut.node(node)).collect();
     let kept = |edge: &&&[u8]| cut.inside(word(edge, 0));
     let edges: Vec<&[u8]> = cut.rows.edges.iter().filter(kept).copied().collect();
-    let mut body = vec![1];
-    body.extend(((nodes.len() / 27) as u16).to_be_bytes());
+    let mut body = vec![network[4]];
+    body.extend(((nodes.len() / form.node()) as u16).to_be_bytes());
     body.extend((edges.len() as u16).to_be_bytes());
     body.push(cut.rows.policies.len() as u8);
     body.extend([cut.rows.policies.concat(), nodes, edges.concat()].concat());

@@ -14,20 +14,71 @@ pub fn long(bytes: &[u8]) -> u64 {
     digits.fold(0, |sum, byte| sum * 256 + u64::from(*byte))
 }
 
+/// What a version decides: the bytes of a route, those at a node's end, and the most nodes of a
+/// network or entries of a sheet or list.
+#[derive(Clone, Copy)]
+pub struct Form {
+    version: u8,
+    pub route: usize,
+    tail: usize,
+    most: usize,
+}
+
+pub const FORMS: [Form; 1] = [Form {
+    version: 1,
+    route: 9,
+    tail: 0,
+    most: 512,
+}];
+
+impl Form {
+    pub fn node(self) -> usize {
+        9 + 2 * self.route + self.tail
+    }
+
+    fn network(self, policies: usize, nodes: usize, edges: usize) -> usize {
+        10 + 13 * policies + self.node() * nodes + 5 * edges
+    }
+
+    /// The two largest records together; `lead` is what an entry has before its route.
+    pub fn largest(self, lead: usize) -> usize {
+        self.network(64, self.most, 4_096) + 7 + (lead + self.route) * self.most
+    }
+
+    pub fn initial(self, node: &[u8]) -> &[u8] {
+        &node[3..3 + self.route]
+    }
+
+    pub fn flag(self, node: &[u8]) -> u8 {
+        node[3 + self.route]
+    }
+
+    pub fn promised(self, node: &[u8]) -> &[u8] {
+        &node[4 + self.route..4 + 2 * self.route]
+    }
+
+    /// The demand, and behind it the ceiling and the tags.
+    pub fn asks(self, node: &[u8]) -> &[u8] {
+        &node[4 + 2 * self.route..9 + 2 * self.route]
+    }
+}
+
 /// A record's policies, nodes and edges; whoever makes one knows that the frame is right.
 pub struct Rows<'a> {
+    pub form: Form,
     pub policies: Vec<&'a [u8]>,
     pub nodes: Vec<&'a [u8]>,
     pub edges: Vec<&'a [u8]>,
 }
 
 impl<'a> Rows<'a> {
-    pub fn of(b: &'a [u8]) -> Rows<'a> {
+    fn of(b: &'a [u8], form: Form) -> Rows<'a> {
         let (policies, rest) = b[10..].split_at(13 * usize::from(b[9]));
-        let (nodes, edges) = rest.split_at(27 * usize::from(word(b, 5)));
+        let (nodes, edges) = rest.split_at(form.node() * usize::from(word(b, 5)));
         Rows {
+            form,
             policies: policies.chunks(13).collect(),
-            nodes: nodes.chunks(27).collect(),
+            nodes: nodes.chunks(form.node()).collect(),
             edges: edges.chunks(5).collect(),
         }
     }
@@ -38,56 +89,61 @@ impl<'a> Rows<'a> {
     }
 }
 
-/// The frame's refusals, with `add` added to their numbers. `counts` are counts with their bounds.
+/// The form, or the frame's refusals with `add` added to their numbers. `size` tells for a form
+/// whether a count is over its bound, and the total.
 fn frame(
     b: &[u8],
     add: u32,
     head: usize,
-    counts: &[(usize, usize)],
-    total: usize,
-) -> Option<Refused> {
-    let over = counts.iter().any(|(count, bound)| count > bound);
+    size: impl Fn(Form) -> (bool, usize),
+) -> Result<Form, Refused> {
+    let version = |form: &Form| b.get(4) == Some(&form.version);
+    let form = FORMS.into_iter().find(version);
+    let (over, total) = match form {
+        Some(form) if b.len() >= head => size(form),
+        _ => (false, 0),
+    };
     let all = [
         (b.len() < head, 1, b.len()),
-        (b.get(4) != Some(&1), 2, 4),
+        (form.is_none(), 2, 4),
         (over, 3, 5),
         (b.len() >= 4 && long(b) + 4 != total as u64, 4, 0),
         (b.len() < total, 1, b.len()),
         (b.len() > total, 5, total),
     ];
-    let first = all.iter().find(|(applies, ..)| *applies)?;
-    Some((first.1 + add, first.2))
+    match (all.iter().find(|(applies, ..)| *applies), form) {
+        (Some((_, number, place)), _) => Err((number + add, *place)),
+        (None, form) => Ok(form.expect("else number 2 applies")),
+    }
 }
 
-fn network_frame(b: &[u8]) -> Option<Refused> {
-    let counts = if b.len() < 10 {
-        [0; 3]
-    } else {
-        [u16::from(b[9]), word(b, 5), word(b, 7)]
-    };
-    let [policies, nodes, edges] = counts.map(usize::from);
-    let total = 10 + 13 * policies + 27 * nodes + 5 * edges;
-    let bounded = [(policies, 64), (nodes, 512), (edges, 4_096)];
-    frame(b, 0, 10, &bounded, total)
+fn network_frame(b: &[u8]) -> Result<Form, Refused> {
+    frame(b, 0, 10, |form| {
+        let counts = [u16::from(b[9]), word(b, 5), word(b, 7)];
+        let [policies, nodes, edges] = counts.map(usize::from);
+        let over = policies > 64 || nodes > form.most || edges > 4_096;
+        (over, form.network(policies, nodes, edges))
+    })
 }
 
-fn route_ill(nine: &[u8]) -> bool {
-    nine[0] > 1 || nine[0] == 0 && nine[1..9].iter().any(|byte| *byte != 0)
+fn route_ill(route: &[u8]) -> bool {
+    route[0] > 1 || route[0] == 0 && route[1..].iter().any(|byte| *byte != 0)
 }
 
 fn policy_ill(policy: &[u8]) -> bool {
     policy[8] > 1 || policy[8] == 0 && word(policy, 9) != 0
 }
 
-fn node_ill(node: &[u8]) -> bool {
-    let (kind, flag, demand) = (node[2], node[12], node[22]);
+fn node_ill(node: &[u8], form: Form) -> bool {
+    let (kind, flag, promised) = (node[2], form.flag(node), form.promised(node));
+    let (demand, asks) = (form.asks(node)[0], &form.asks(node)[1..]);
     kind > 1
         || flag > 1
         || demand > 2
-        || route_ill(&node[3..12])
-        || route_ill(&node[13..22])
-        || flag == 0 && node[13] != 0
-        || demand != 1 && node[23..27].iter().any(|byte| *byte != 0)
+        || route_ill(form.initial(node))
+        || route_ill(promised)
+        || flag == 0 && promised[0] != 0
+        || demand != 1 && asks.iter().any(|byte| *byte != 0)
         || kind == 1 && (flag != 0 || demand != 0)
 }
 
@@ -103,43 +159,44 @@ fn first_ill(rows: &[&[u8]], key: usize, ill: impl Fn(&[u8]) -> bool) -> Option<
     (0..rows.len()).find(|&row| falls(row) || ill(rows[row]))
 }
 
-pub fn network_refusal(b: &[u8]) -> Option<Refused> {
-    if let Some(refused) = network_frame(b) {
-        return Some(refused);
-    }
-    let rows = Rows::of(b);
-    let node_part = 10 + 13 * rows.policies.len();
-    let edge_part = node_part + 27 * rows.nodes.len();
+fn rows_refusal(rows: &Rows) -> Option<Refused> {
+    let (form, policies) = (rows.form, rows.policies.len());
+    let node_place = |row| form.network(policies, row, 0);
     if let Some(row) = rows.policies.iter().position(|policy| policy_ill(policy)) {
-        return Some((6, 10 + 13 * row));
+        return Some((6, form.network(row, 0, 0)));
     }
-    if let Some(row) = first_ill(&rows.nodes, 2, node_ill) {
-        return Some((7, node_part + 27 * row));
+    if let Some(row) = first_ill(&rows.nodes, 2, |node| node_ill(node, form)) {
+        return Some((7, node_place(row)));
     }
     if rows.nodes.iter().all(|node| node[2] == 1) {
-        return Some((8, node_part));
+        return Some((8, node_place(0)));
     }
-    if let Some(row) = first_ill(&rows.edges, 4, |edge| edge_ill(edge, &rows)) {
-        return Some((9, edge_part + 5 * row));
+    if let Some(row) = first_ill(&rows.edges, 4, |edge| edge_ill(edge, rows)) {
+        return Some((9, form.network(policies, rows.nodes.len(), row)));
     }
     let sends = |id: u16| rows.edges.iter().any(|edge| word(edge, 2) == id);
     let idle = |node: &&[u8]| node[2] == 1 && !sends(word(node, 0));
     let row = rows.nodes.iter().position(idle)?;
-    Some((10, node_part + 27 * row))
+    Some((10, node_place(row)))
 }
 
-/// The entries of a sheet or list by id; `size` is 11 or 12 bytes an entry.
-fn entries(b: &[u8], size: usize) -> Result<BTreeMap<u16, &[u8]>, Refused> {
-    let count = if b.len() < 7 {
-        0
-    } else {
-        usize::from(word(b, 5))
-    };
-    if let Some(refused) = frame(b, 10, 7, &[(count, 512)], 7 + size * count) {
-        return Err(refused);
+fn network(b: &[u8]) -> Result<Rows<'_>, Refused> {
+    let rows = Rows::of(b, network_frame(b)?);
+    match rows_refusal(&rows) {
+        Some(refused) => Err(refused),
+        None => Ok(rows),
     }
+}
+
+/// The entries of a sheet or list by id; `lead` is 3 or 2 bytes before the route.
+fn entries(b: &[u8], lead: usize) -> Result<BTreeMap<u16, &[u8]>, Refused> {
+    let form = frame(b, 10, 7, |form| {
+        let count = usize::from(word(b, 5));
+        (count > form.most, 7 + (lead + form.route) * count)
+    })?;
+    let size = lead + form.route;
     let rows: Vec<&[u8]> = b[7..].chunks(size).collect();
-    let ill = |entry: &[u8]| size == 12 && entry[2] > 63 || route_ill(&entry[size - 9..]);
+    let ill = |entry: &[u8]| lead == 3 && entry[2] > 63 || route_ill(&entry[lead..]);
     match first_ill(&rows, 2, ill) {
         Some(row) => Err((16, 7 + size * row)),
         None => Ok(rows.into_iter().map(|row| (word(row, 0), row)).collect()),
@@ -148,15 +205,12 @@ fn entries(b: &[u8], size: usize) -> Result<BTreeMap<u16, &[u8]>, Refused> {
 
 /// The rows of the network and the entries of the second record, or the first refusal up to 17.
 pub fn both<'a>(
-    network: &'a [u8],
+    first: &'a [u8],
     second: &'a [u8],
-    size: usize,
+    lead: usize,
 ) -> Result<(Rows<'a>, BTreeMap<u16, &'a [u8]>), Refused> {
-    if let Some(refused) = network_refusal(network) {
-        return Err(refused);
-    }
-    let entries = entries(second, size)?;
-    let rows = Rows::of(network);
+    let rows = network(first)?;
+    let entries = entries(second, lead)?;
     let missing = |node: &&&[u8]| node[2] == 0 && !entries.contains_key(&word(node, 0));
     match rows.nodes.iter().find(missing) {
         Some(node) => Err((17, word(node, 0).into())),

@@ -4,54 +4,66 @@
 mod calls;
 mod forms;
 
-use forms::{long, word, Refused};
-use reference::cases;
+use forms::{long, word, Refused, FORMS};
+use reference::cases::{self, Case};
 
-fn answer(call: u8, input: &[u8]) -> Vec<u8> {
-    if call == 2 {
-        let (room, length) = (word(input, 0), word(input, 2));
-        let fragment = cut(input[4..].split_at(length.into()));
-        return line(fragment.and_then(|bytes| match bytes.len() {
-            needed if needed > room.into() => Err((20, needed)),
-            _ => Ok(bytes),
-        }));
+fn answer(case: &Case) -> Vec<u8> {
+    let input = &case.input;
+    line(match case.call.name {
+        "judge" => program(input, 2, 0, judge),
+        "cut" => program(input, 3, 1, cut),
+        "lent" => lent(input),
+        other => panic!("{other} is not defined here"),
+    })
+}
+
+/// What a call answers to a network and what follows it.
+type Answer = Result<Vec<u8>, Refused>;
+
+/// A program's answer. The most that it reads is the two largest records, the second with this
+/// lead in its entries, and `more` bytes.
+fn program(input: &[u8], lead: usize, more: usize, call: fn(&[u8], &[u8]) -> Answer) -> Answer {
+    let largest = FORMS.map(|form| form.largest(lead)).into_iter().max();
+    let bound = largest.expect("a form") + more;
+    if input.len() > bound {
+        return Err((5, bound));
     }
-    let bound = [40_785, 41_298][usize::from(call)];
     let end = if input.len() < 4 {
         input.len()
     } else {
         (long(input) + 4).min(input.len() as u64) as usize
     };
     let (network, rest) = input.split_at(end);
-    line(match (input.len() > bound, call) {
-        (true, _) => Err((5, bound)),
-        (_, 0) => calls::judge(network, rest).map(String::into_bytes),
-        _ => cut((network, rest)),
-    })
+    call(network, rest)
+}
+
+fn judge(network: &[u8], list: &[u8]) -> Answer {
+    calls::judge(network, list).map(String::into_bytes)
 }
 
 /// What follows the network is the fragment asked, and then the sheet.
-fn cut((network, rest): (&[u8], &[u8])) -> Result<Vec<u8>, Refused> {
+fn cut(network: &[u8], rest: &[u8]) -> Answer {
     let (asked, sheet) = (*rest.first().unwrap_or(&0), rest.get(1..).unwrap_or(&[]));
     calls::cut(network, asked, sheet)
 }
 
-fn line(answer: Result<Vec<u8>, Refused>) -> Vec<u8> {
+/// The lengths of the buffer and of the network come first.
+fn lent(input: &[u8]) -> Answer {
+    let (room, length) = (word(input, 0), word(input, 2));
+    let (network, rest) = input[4..].split_at(length.into());
+    match cut(network, rest)? {
+        bytes if bytes.len() > room.into() => Err((20, bytes.len())),
+        bytes => Ok(bytes),
+    }
+}
+
+fn line(answer: Answer) -> Vec<u8> {
     answer.unwrap_or_else(|(number, place)| format!("refused {number} {place}\n").into())
 }
 
 #[test]
 fn stored_answers_are_those_of_the_definition() {
-    let stream = cases::make();
-    let (mut inputs, mut answers) = (&stream.inputs[..], &stream.answers[..]);
-    for case in 0..stream.cases {
-        let (call, length) = (inputs[0], long(&inputs[1..]) as usize);
-        let input = &inputs[5..5 + length];
-        inputs = &inputs[5 + length..];
-        let length = long(answers) as usize;
-        let stored = &answers[4..4 + length];
-        answers = &answers[4 + length..];
-        assert!(answer(call, input) == stored, "case {case}");
+    for (number, case) in cases::make().cases.iter().enumerate() {
+        assert!(answer(case) == case.answer, "case {number}");
     }
-    assert!(inputs.is_empty() && answers.is_empty());
 }

@@ -1,14 +1,35 @@
 //! What several tests use.
 #![allow(dead_code)]
 
-use reference::damage::Input;
-use reference::plan::{list_record, sheet_record, Listed, Noted, Plan};
-use reference::program::{cut_bytes, judge_bytes};
-use reference::record::Refusal;
+use reference::call::{CUT, JUDGE};
+use reference::form::{FORMS, VERSION_1};
+use reference::input::Input;
+use reference::plan::{self, Listed, Noted, Plan};
+use reference::refusal::Refusal;
+
+/// A list of document 01's form.
+pub fn list_record(entries: &[Listed]) -> Vec<u8> {
+    plan::list_record(VERSION_1, entries)
+}
+
+/// A sheet of document 01's form.
+pub fn sheet_record(entries: &[Noted]) -> Vec<u8> {
+    plan::sheet_record(VERSION_1, entries)
+}
+
+/// What the judge writes.
+pub fn judge_bytes(input: &[u8]) -> Vec<u8> {
+    JUDGE.answer(input)
+}
+
+/// What the cutter writes.
+pub fn cut_bytes(input: &[u8]) -> Vec<u8> {
+    CUT.answer(input)
+}
 
 /// The judge's line for a plan and a list, without its line feed.
 pub fn judge(plan: &Plan, list: &[Listed]) -> String {
-    judge_records(&plan.record(), &list_record(list))
+    line(&Input::judge(plan, list).answer())
 }
 
 pub fn judge_records(network: &[u8], list: &[u8]) -> String {
@@ -17,7 +38,7 @@ pub fn judge_records(network: &[u8], list: &[u8]) -> String {
 
 /// The cutter's output for a plan, the fragment asked and a sheet.
 pub fn cut(plan: &Plan, asked: u8, sheet: &[Noted]) -> Vec<u8> {
-    Input::cut(plan.record(), asked, sheet_record(sheet)).answer()
+    Input::cut(plan, asked, sheet).answer()
 }
 
 /// The cutter's line, of a call that is refused.
@@ -35,6 +56,12 @@ pub fn line(output: &[u8]) -> String {
     let line = text.strip_suffix('\n').expect("a line feed at the end");
     assert!(!line.contains('\n'), "one line only");
     line.to_string()
+}
+
+/// The version bytes that no form has.
+pub fn unknown_versions() -> impl Iterator<Item = u8> {
+    let known = |version: &u8| FORMS.iter().any(|form| form.version == *version);
+    (0..=u8::MAX).filter(move |version| !known(version))
 }
 
 /// A record with bytes written over it.

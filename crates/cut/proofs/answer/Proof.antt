@@ -1,4 +1,6 @@
 -- The output fits in its room (text-fits), and is what is read back from there (text-read).
+use Rattle.layout.specs.Form.{nodeWidth}
+use Rattle.reading.specs.Largest.{largestNetwork}
 use Rattle.cutting.proofs.TextLaws.{text-fits, text-read}
 use borrow.Author.Needs.{needs}
 use Rattle.cut.proofs.answer.Statement.{statement}
@@ -17,9 +19,11 @@ part-write-answer-start : tie.Need-part-write-answer-start
 part-write-answer-start c = search needs
 
 part-write-answer-end : tie.Need-part-write-answer-end
+unfolding largestNetwork nodeWidth
 part-write-answer-end c = search (needs, text-fits)
 
 write-answer-requires : tie.Need-write-answer-requires
+unfolding largestNetwork nodeWidth
 write-answer-requires c κs = search (needs, text-read)
 
 returns : tie.Need-returns

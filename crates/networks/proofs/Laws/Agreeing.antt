@@ -8,10 +8,12 @@ use Rattle.lists.specs.All.{All}
 use Rattle.networks.specs.Algebra.{Algebra}
 use Rattle.networks.specs.Network.{Own, Box, own, input, NetworkOver, ownBoxes, box}
 use Rattle.networks.specs.Sheets.{RouteList, listed}
-use Rattle.networks.specs.Answer.{given, refuse, lowest, isSome}
+use Rattle.lists.specs.Answer.{given, isSome, row}
+use Rattle.networks.specs.Lowest.{lowest}
 use Rattle.networks.specs.Solution.{routeOf, due, mapping}
 use Rattle.networks.specs.Judge.{Finding, Verdict, firstFinding, fault, stop, verdictFrom, judge}
 use Rattle.networks.proofs.Laws.Boxes.{own-found}
+use Rattle.lists.specs.Test.{firstOf}
 
 module _ (𝓐 : Algebra) (N : NetworkOver 𝓐) (L M : RouteList (𝓐 .Route))
     (agree : All (λ (b : Own (𝓐 .Route) (𝓐 .Demand)). listed L (b .id) ≡ listed M (b .id)) (ownBoxes N)) where
@@ -45,5 +47,5 @@ module _ (𝓐 : Algebra) (N : NetworkOver 𝓐) (L M : RouteList (𝓐 .Route))
 
   pub same-judge : judge 𝓐 N L ≡ judge 𝓐 N M
   unfolding judge
-  same-judge = ap₂ (λ (o : Option ℕ) (v : Verdict Route). refuse 17 o (given v)) (same-unentered (ownBoxes N) agree)
+  same-judge = ap₂ (λ (o : Option ℕ) (v : Verdict Route). firstOf (row 17 o ∷ []) (given v)) (same-unentered (ownBoxes N) agree)
       (same-verdict 0 (ownBoxes N) agree)

@@ -1,17 +1,19 @@
 -- The boxes of a network by kind and by id.
 --     found, there             for either kind: what the box with an id knows, and each box is the one with its id
---     own-found .. input-there     the same for own boxes and for inputs
+--     own-found, own-there, input-there     the same for own boxes and for inputs
 --     own-rise                 own boxes stand by rising id
 --     owned, own-fact, own-any     from `owns` to the own box, to what every own box has, and to a test that some own box meets
 use mathlib.Core.Path.{_≡_, refl, sym, ap, _∙_, subst}
 use mathlib.Core.Bool.{Bool, true, false≢true}
-use mathlib.Core.Option.{Option, none, some}
+use mathlib.Core.Option.{Option, none, some, Option·none-ne-some, Option·some-injective}
 use mathlib.Core.List.{filterMap}
 use Prim.Native.Nat.{ℕ}
-use Rattle.lists.specs.All.{All, all-map, any, any-here}
-use Rattle.lists.specs.Filter.{some-inj, none-some, all-filterMap, filterMap-all}
-use Rattle.lists.specs.Sorted.{Rises, rises-filterMap, find-key, find-all, find-self}
-use Rattle.networks.specs.Network.{Own, Input, Box, own, input, Network, boxId, asOwn, asInput, isOwn, ownBoxes, inputs, box, owns}
+use Rattle.lists.specs.All.{All, any}
+use Rattle.lists.proofs.All.{all-map, any-here}
+use Rattle.lists.proofs.Filter.{all-filterMap, filterMap-all}
+use Rattle.lists.specs.Sorted.{Rises}
+use Rattle.lists.proofs.Sorted.{rises-filterMap, find-key, find-all, find-self}
+use Rattle.networks.specs.Network.{Own, Input, Box, own, input, Network, boxId, asOwn, asInput, isOwnBox, ownBoxes, inputs, box, owns}
 
 -- one kind of box, and the box that each of the kind is
 module _ {A R P D : Type 0} (N : Network R P D) (kind : Box R D → Option A) (make : A → Box R D) (same : (x : A) → kind (make x) ≡ some x)
@@ -25,19 +27,16 @@ module _ {A R P D : Type 0} (N : Network R P D) (kind : Box R D → Option A) (m
       (all-map (N .boxes) (λ v e x q. subst (λ (u : Box R D). box N (boxId u) ≡ some u) (only v x q) e) (find-self boxId 0 (N .boxes) rise))
 
 own-only : {R D : Type 0} (v : Box R D) (b : Own R D) → asOwn v ≡ some b → v ≡ own b
-own-only (own c) b e = ap own (some-inj e)
-own-only (input a) b e = absurd (none-some e)
+own-only (own c) b e = ap own (Option·some-injective _ _ e)
+own-only (input a) b e = absurd (Option·none-ne-some _ e)
 
 input-only : {R D : Type 0} (v : Box R D) (a : Input R) → asInput v ≡ some a → v ≡ input a
-input-only (own b) a e = absurd (none-some e)
-input-only (input c) a e = ap input (some-inj e)
+input-only (own b) a e = absurd (Option·none-ne-some _ e)
+input-only (input c) a e = ap input (Option·some-injective _ _ e)
 
 module _ {R P D : Type 0} (N : Network R P D) where
   pub own-found : (Q : Own R D → Type 0) (i : ℕ) (b : Own R D) → All Q (ownBoxes N) → box N i ≡ some (own b) → Q b
   own-found = found N asOwn own (λ b. refl) own-only
-
-  pub input-found : (Q : Input R → Type 0) (i : ℕ) (a : Input R) → All Q (inputs N) → box N i ≡ some (input a) → Q a
-  input-found = found N asInput input (λ a. refl) input-only
 
   pub own-there : Rises boxId 0 (N .boxes) → All (λ (b : Own R D). box N (b .id) ≡ some (own b)) (ownBoxes N)
   own-there = there N asOwn own (λ b. refl) own-only
@@ -51,7 +50,7 @@ module _ {R P D : Type 0} (N : Network R P D) where
   pub owned : (i : ℕ) → owns N i ≡ true → (b : Own R D) × (box N i ≡ some (own b)) × (b .id ≡ i)
   owned i t = go (box N i) refl t
     where
-      go : (o : Option (Box R D)) → box N i ≡ o → isOwn o ≡ true → (b : Own R D) × (box N i ≡ some (own b)) × (b .id ≡ i)
+      go : (o : Option (Box R D)) → box N i ≡ o → isOwnBox o ≡ true → (b : Own R D) × (box N i ≡ some (own b)) × (b .id ≡ i)
       go none q e = absurd (false≢true e)
       go (some (input a)) q e = absurd (false≢true e)
       go (some (own b)) q e = (b, q, find-key boxId i (N .boxes) (own b) q)

@@ -5,24 +5,27 @@
 use mathlib.Core.Path.{_≡_, refl, sym, ap, _∙_}
 use mathlib.Core.Bool.{Bool, true, false, cond, not, _&&_, false≢true}
 use mathlib.Core.Logic.{_↔_}
-use mathlib.Core.Option.{Option, none, some}
+use mathlib.Core.Option.{Option, none, some, Option·none-ne-some, Option·some-injective}
 use mathlib.Core.List.{List, [], _∷_}
 use Prim.Native.Nat.{ℕ, _<_}
 use native.Mathlib.Omega.{arith}
 use lib.Dec.{eqb}
 use lib.ListN.{length}
 use borrow.Author.Tests.{eq-eqb, not-false}
-use Rattle.lists.specs.Test.{or-i-l}
-use Rattle.lists.specs.All.{All, all-map, all-both, any}
-use Rattle.lists.specs.Filter.{some-inj, none-some}
+use Rattle.lists.proofs.Test.{or-i-l}
+use Rattle.lists.specs.All.{All, any}
+use Rattle.lists.proofs.All.{all-map, all-both}
 use Rattle.networks.specs.Algebra.{Algebra}
 use Rattle.networks.specs.Network.{Own, Network, ownBoxes, owns}
 use Rattle.networks.specs.Sound.{Bounds, Sound}
 use Rattle.networks.specs.Sheets.{Sheet, number, note}
-use Rattle.networks.specs.Answer.{given, refused, refuse, lowest, isSome, Entered, unentered}
+use Rattle.lists.specs.Answer.{given, refused, isSome, row}
+use Rattle.networks.specs.Lowest.{lowest, Entered, unentered}
 use Rattle.networks.specs.Cut.{leaves, fragment, numbered, offNote, clashes, cut, Cuts}
 use Rattle.networks.proofs.Laws.Boxes.{own-any}
-use Rattle.networks.proofs.Laws.Answers.{lowest-none, none-lowest, given-same, refused-given, refused-number, refuse-given, entered-none, none-entered}
+use Rattle.networks.proofs.Laws.Lowest.{lowest-none, none-lowest, entered-none, none-entered}
+use Rattle.lists.proofs.Answer.{given-same, refused-given, refused-number, row-given}
+use Rattle.lists.specs.Test.{firstOf}
 
 -- Every own box has an entry, and a promise of a box that a cut wire leaves is its note.
 pub record Fits {R P D : Type 0} (N : Network R P D) (S : Sheet R) : Type 0 where
@@ -35,15 +38,15 @@ module _ (𝓐 : Algebra) where
   no-clash : (left : Bool) (p n : Option Route) → (left ≡ true → (q : Route) → p ≡ some q → n ≡ some q) → left && offNote 𝓐 p n ≡ false
   no-clash false p n f = refl
   no-clash true none n f = refl
-  no-clash true (some q) none f = absurd (none-some (f refl q refl))
-  no-clash true (some q) (some n) f = rw (some-inj (f refl q refl)) (ap not (same-self q))
+  no-clash true (some q) none f = absurd (Option·none-ne-some _ (f refl q refl))
+  no-clash true (some q) (some n) f = rw (Option·some-injective _ _ (f refl q refl)) (ap not (same-self q))
 
   clash-none : (left : Bool) (p n : Option Route) → isSome n ≡ true → left && offNote 𝓐 p n ≡ false → left ≡ true → (q : Route) → p ≡ some q
       → n ≡ some q
   clash-none false p n t e l q c = absurd (false≢true l)
-  clash-none true none n t e l q c = absurd (none-some c)
+  clash-none true none n t e l q c = absurd (Option·none-ne-some _ c)
   clash-none true (some x) none t e l q c = absurd (false≢true t)
-  clash-none true (some x) (some n) t e l q c = ap some (sym (same-true x n (not-false (same x n) e)) ∙ some-inj c)
+  clash-none true (some x) (some n) t e l q c = ap some (sym (same-true x n (not-false (same x n) e)) ∙ Option·some-injective _ _ c)
 
   module _ (N : Network Route Policy Demand) (S : Sheet Route) where
     -- the row of refusal 19
@@ -66,7 +69,7 @@ module _ (𝓐 : Algebra) where
         both = all-both _ _ (ownBoxes N)
 
     -- a sheet that fits leaves refusal 18
-    pub cut-answer : Fits N S → (k : ℕ) → cut 𝓐 N S k ≡ refuse 18 (cond (any (numbered N S k) (ownBoxes N)) none (some k)) (given (fragment N S k))
+    pub cut-answer : Fits N S → (k : ℕ) → cut 𝓐 N S k ≡ firstOf (row 18 (cond (any (numbered N S k) (ownBoxes N)) none (some k)) ∷ []) (given (fragment N S k))
     unfolding cut
     cut-answer h k = rw (entered-none N (note S) (h .entered), fits-none h) refl
 
@@ -79,14 +82,14 @@ module _ (𝓐 : Algebra) where
         → Fits N S × (any (numbered N S k) (ownBoxes N) ≡ true) × (fragment N S k ≡ F)
     unfolding cut
     cut-given k F e =
-        let a = refuse-given 17 (unentered N (note S)) _ F e in
-        let b = refuse-given 18 (cond (any (numbered N S k) (ownBoxes N)) none (some k)) _ F (a .1) in
-        let c = refuse-given 19 clashing _ F (b .1) in
+        let a = row-given 17 (unentered N (note S)) _ F e in
+        let b = row-given 18 (cond (any (numbered N S k) (ownBoxes N)) none (some k)) _ F (a .1) in
+        let c = row-given 19 clashing _ F (b .1) in
         (none-fits (a .0) (c .0), some-numbered (any (numbered N S k) (ownBoxes N)) (b .0), given-same (c .1))
       where
         some-numbered : (t : Bool) → cond t none (some k) ≡ none → t ≡ true
         some-numbered true q = refl
-        some-numbered false q = absurd (none-some (sym q))
+        some-numbered false q = absurd (Option·none-ne-some _ (sym q))
 
     -- some own box has the number k, so that 18 does not stand before 19
     own-numbered : (bs : List (Own Route Demand)) → 0 < length bs → (k : ℕ) × (any (numbered N S k) bs ≡ true)
@@ -121,6 +124,6 @@ module _ (𝓐 : Algebra) where
       λ h k at place e. only-18 k (any (numbered N S k) (ownBoxes N)) at place (sym (cut-answer h k) ∙ e),
     )
       where
-        only-18 : (k : ℕ) (t : Bool) (at place : ℕ) → refuse 18 (cond t none (some k)) (given (fragment N S k)) ≡ refused at place → at ≡ 18
+        only-18 : (k : ℕ) (t : Bool) (at place : ℕ) → firstOf (row 18 (cond t none (some k)) ∷ []) (given (fragment N S k)) ≡ refused at place → at ≡ 18
         only-18 k true at place e = absurd (refused-given (sym e))
         only-18 k false at place e = sym (refused-number e)

@@ -1,5 +1,5 @@
 -- What a sheet or a list says of a box, by its entry.
---     number-entry .. listed-none     with an entry and without
+--     note-entry, note-none           the note with an entry and without
 --     note-noted, same-notes          sheets with the same boxes and notes have the same note for every box
 --     third                           three such sheets, as `Third` has them
 use mathlib.Core.Path.{_≡_, refl, sym, ap, _∙_}
@@ -7,16 +7,12 @@ use mathlib.Core.Bool.{true}
 use mathlib.Core.Logic.{_↔_}
 use mathlib.Core.Option.{Option, none, some, Option·map}
 use Prim.Native.Nat.{ℕ}
-use Rattle.lists.specs.Sorted.{find-map}
-use Rattle.networks.specs.Sheets.{SheetEntry, ListEntry, Sheet, RouteList, sheetEntry, listEntry, number, note, listed, noted}
-use Rattle.networks.specs.Answer.{isSome}
+use Rattle.lists.proofs.Sorted.{find-map}
+use Rattle.networks.specs.Sheets.{SheetEntry, ListEntry, Sheet, RouteList, sheetEntry, number, note, listed, noted}
+use Rattle.lists.specs.Answer.{isSome}
 use Rattle.networks.specs.Cut.{Third}
 
 module _ {R : Type 0} where
-  pub number-entry : (S : Sheet R) (i : ℕ) (e : SheetEntry R) → sheetEntry S i ≡ some e → number S i ≡ e .fragment
-  unfolding number
-  number-entry S i e q = rw q refl
-
   pub note-entry : (S : Sheet R) (i : ℕ) (e : SheetEntry R) → sheetEntry S i ≡ some e → note S i ≡ some (e .note)
   unfolding note
   note-entry S i e q = rw q refl
@@ -24,14 +20,6 @@ module _ {R : Type 0} where
   pub note-none : (S : Sheet R) (i : ℕ) → sheetEntry S i ≡ none → note S i ≡ none
   unfolding note
   note-none S i q = rw q refl
-
-  pub listed-entry : (L : RouteList R) (i : ℕ) (e : ListEntry R) → listEntry L i ≡ some e → listed L i ≡ some (e .route)
-  unfolding listed
-  listed-entry L i e q = rw q refl
-
-  pub listed-none : (L : RouteList R) (i : ℕ) → listEntry L i ≡ none → listed L i ≡ none
-  unfolding listed
-  listed-none L i q = rw q refl
 
   pub note-noted : (S : Sheet R) (i : ℕ) → listed (noted S) i ≡ note S i
   unfolding listed note

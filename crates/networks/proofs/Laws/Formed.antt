@@ -8,17 +8,20 @@ use mathlib.Core.Option.{Option, none, some, Option·map, bind}
 use Prim.Native.Nat.{ℕ}
 use lib.Dec.{eqb}
 use borrow.Author.Tests.{eqb-true, eq-eqb, ne-eqb}
-use Rattle.lists.specs.Test.{and-l, and-r, and-i}
-use Rattle.lists.specs.All.{All, all-map, all-both, any, any-congr, any-mono, any-here}
-use Rattle.lists.specs.Filter.{all-filter}
-use Rattle.lists.specs.Sorted.{Rises, find-key}
-use Rattle.networks.specs.Network.{Own, Box, own, input, Wire, Network, boxId, isBox, isOwn, box, hasBox, owns}
+use Rattle.lists.proofs.Test.{and-l, and-r, and-i}
+use Rattle.lists.specs.All.{All, any}
+use Rattle.lists.proofs.All.{all-map, all-both, any-congr, any-mono, any-here}
+use Rattle.lists.proofs.Filter.{all-filter}
+use Rattle.lists.specs.Sorted.{Rises}
+use Rattle.lists.proofs.Sorted.{find-key}
+use Rattle.networks.specs.Network.{Own, Box, own, input, Wire, Network, boxId, isBox, isOwnBox, box, hasBox, owns}
 use Rattle.networks.specs.Sound.{Bounds, Joined, Sound}
 use Rattle.networks.specs.Sheets.{Sheet, number, note}
-use Rattle.networks.specs.Answer.{isSome, Entered}
-use Rattle.networks.specs.Cut.{leaves, feeds, promising, assuming, piece, fragmentOf}
+use Rattle.lists.specs.Answer.{isSome}
+use Rattle.networks.specs.Lowest.{Entered}
+use Rattle.networks.specs.Cut.{leaves, feeds, promisingOwn, assuming, piece, fragmentOf}
 use Rattle.networks.proofs.Laws.Boxes.{own-found, owned}
-use Rattle.networks.proofs.Laws.Answers.{isSome-true}
+use Rattle.lists.proofs.Answer.{isSome-true}
 use Rattle.networks.proofs.Laws.Pieces.{pieces-rise, box-piece}
 
 pub record Formed {R P D : Type 0} (N : Network R P D) : Type 0 where
@@ -57,10 +60,10 @@ module _ {R P D : Type 0} (N : Network R P D) (S : Sheet R) (formed : Formed N) 
 
   module _ (κ : ℕ → Bool) where
     -- a fragment owns the own boxes with its numbers
-    is-own-piece : (b : Own R D) → isOwn (piece N S κ (own b)) ≡ κ (number S (b .id))
+    is-own-piece : (b : Own R D) → isOwnBox (piece N S κ (own b)) ≡ κ (number S (b .id))
     is-own-piece b = go (κ (number S (b .id))) (feeds N S κ (b .id)) (note S (b .id))
       where
-        go : (s t : Bool) (n : Option R) → isOwn (cond s (some (own (promising N S b))) (cond t (Option·map (assuming b) n) none)) ≡ s
+        go : (s t : Bool) (n : Option R) → isOwnBox (cond s (some (own (promisingOwn N S b))) (cond t (Option·map (assuming b) n) none)) ≡ s
         go true t n = refl
         go false true (some n) = refl
         go false true none = refl
@@ -80,7 +83,7 @@ module _ {R P D : Type 0} (N : Network R P D) (S : Sheet R) (formed : Formed N) 
       is-box-piece (own b) h f = rw f (go (κ (number S (b .id))) (isSome-true (note S (b .id)) (h b refl)))
         where
           go : (s : Bool) → (n : R) × (note S (b .id) ≡ some n)
-              → isBox (cond s (some (own (promising N S b))) (Option·map (assuming b) (note S (b .id)))) ≡ true
+              → isBox (cond s (some (own (promisingOwn N S b))) (Option·map (assuming b) (note S (b .id)))) ≡ true
           go true n = refl
           go false n = rw (n .1) refl
 

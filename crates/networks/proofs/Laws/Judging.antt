@@ -6,7 +6,7 @@
 --     judge-given, passes-solved         the same of the judge's answer
 use mathlib.Core.Path.{_≡_, refl, sym, ap, _∙_, subst}
 use mathlib.Core.Bool.{true, false, not}
-use mathlib.Core.Option.{Option, none, some}
+use mathlib.Core.Option.{Option, none, some, Option·none-ne-some, Option·some-injective}
 use mathlib.Core.Logic.{_↔_}
 use mathlib.Core.List.{List, [], _∷_}
 use Prim.Native.Nat.{ℕ, suc, _+_, _≤_}
@@ -15,19 +15,23 @@ use native.Mathlib.Omega.{arith}
 use lib.Dec.{leb}
 use lib.ListN.{length}
 use borrow.Author.Tests.{not-false, le-leb}
-use Rattle.lists.specs.Test.{cond-off}
-use Rattle.lists.specs.All.{All, all-map, all-both}
-use Rattle.lists.specs.Filter.{some-inj, none-some, filter}
-use Rattle.lists.specs.Sorted.{Rises, filter-low}
+use Rattle.lists.proofs.Test.{cond-off}
+use Rattle.lists.specs.All.{All}
+use Rattle.lists.proofs.All.{all-map, all-both}
+use Rattle.lists.specs.Filter.{filter}
+use Rattle.lists.specs.Sorted.{Rises}
+use Rattle.lists.proofs.Sorted.{filter-low}
 use Rattle.networks.specs.Algebra.{Algebra}
 use Rattle.networks.specs.Network.{Own, Input, own, input, Network, boxId, ownBoxes, inputs, box}
 use Rattle.networks.specs.Sheets.{RouteList, listed}
-use Rattle.networks.specs.Answer.{given, Entered, unentered}
+use Rattle.lists.specs.Answer.{given}
+use Rattle.networks.specs.Lowest.{Entered, unentered}
 use Rattle.networks.specs.Solution.{due, mapping, Solution, Demands}
 use Rattle.networks.specs.Judge.{Finding, Verdict, pass, found, held, breaks, fault, stop, verdictFrom, judge, Passes}
 use Rattle.networks.proofs.Laws.Boxes.{own-there, input-there}
 use Rattle.networks.proofs.Laws.Named.{Named, named-here, named-later}
-use Rattle.networks.proofs.Laws.Answers.{entered-none, none-entered, given-same, refuse-given}
+use Rattle.networks.proofs.Laws.Lowest.{entered-none, none-entered}
+use Rattle.lists.proofs.Answer.{given-same, row-given}
 
 module _ (𝓐 : Algebra) where
   open Algebra 𝓐 using (Route, Policy, Demand, noRoute, same, meets, same-true, same-self)
@@ -39,8 +43,8 @@ module _ (𝓐 : Algebra) where
   equal x y e = ap not (subst (λ (z : Route). same x z ≡ true) e (same-self x))
 
   keeps : (p : Option Route) (x : Route) → breaks 𝓐 p x ≡ false → (q : Route) → p ≡ some q → x ≡ q
-  keeps none x t q e = absurd (none-some e)
-  keeps (some y) x t q e = unequal x y t ∙ some-inj e
+  keeps none x t q e = absurd (Option·none-ne-some _ e)
+  keeps (some y) x t q e = unequal x y t ∙ Option·some-injective _ _ e
 
   kept : (p : Option Route) (x : Route) → ((q : Route) → p ≡ some q → x ≡ q) → breaks 𝓐 p x ≡ false
   kept none x f = refl
@@ -61,9 +65,9 @@ module _ (𝓐 : Algebra) where
         × (meets (b .demand) (held 𝓐 L (b .id)) ≡ true)
     unfolding fault
     fault-none b e =
-        let s = cond-off _ _ _ none (λ z. none-some (sym z)) e in
-        let t = cond-off _ _ _ none (λ z. none-some (sym z)) (s .1) in
-        let u = cond-off _ _ _ none (λ z. none-some (sym z)) (t .1) in
+        let s = cond-off _ _ _ none (λ z. Option·none-ne-some _ (sym z)) e in
+        let t = cond-off _ _ _ none (λ z. Option·none-ne-some _ (sym z)) (s .1) in
+        let u = cond-off _ _ _ none (λ z. Option·none-ne-some _ (sym z)) (t .1) in
         (unequal _ _ (s .0), keeps (b .promise) _ (t .0), not-false _ (u .0))
 
     pub none-fault : (b : Own Route Demand) → held 𝓐 L (b .id) ≡ due 𝓐 N (mapping 𝓐 N L) b
@@ -127,7 +131,7 @@ module _ (𝓐 : Algebra) where
     -- the answer
     pub judge-given : (v : Verdict Route) → judge 𝓐 N L ≡ given v → Entered N (listed L) × (verdictFrom 𝓐 N L 0 (ownBoxes N) ≡ v)
     unfolding judge
-    judge-given v e = let s = refuse-given 17 (unentered N (listed L)) (given (verdictFrom 𝓐 N L 0 (ownBoxes N))) v e in
+    judge-given v e = let s = row-given 17 (unentered N (listed L)) (given (verdictFrom 𝓐 N L 0 (ownBoxes N))) v e in
         (none-entered N (listed L) (s .0), given-same (s .1))
 
     module _ (rise : Rises boxId 0 (N .boxes)) where

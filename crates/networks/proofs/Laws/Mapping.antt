@@ -6,13 +6,13 @@ use mathlib.Core.Bool.{Bool, true, false, cond, false≢true}
 use mathlib.Core.Option.{Option, none, some, Option·map, Option·getD, bind}
 use Prim.Native.Nat.{ℕ}
 use Rattle.lists.specs.All.{any}
-use Rattle.lists.specs.Filter.{filter-none}
+use Rattle.lists.proofs.Filter.{filter-none}
 use Rattle.networks.specs.Algebra.{Algebra}
-use Rattle.networks.specs.Network.{Own, Box, own, input, NetworkOver, isBox, isOwn, ownBoxes, box, hasBox}
+use Rattle.networks.specs.Network.{Own, Box, own, input, NetworkOver, isBox, isOwnBox, ownBoxes, box, hasBox}
 use Rattle.networks.specs.Sheets.{Sheet, RouteList, number, note, listed}
 use Rattle.networks.specs.Solution.{routeOf, mapping}
 use Rattle.networks.specs.Judge.{verdictFrom, judge, Passes}
-use Rattle.networks.specs.Cut.{only, leaves, feeds, promising, assuming, piece, fragment, numbered, Agrees}
+use Rattle.networks.specs.Cut.{only, leaves, feeds, promisingOwn, assuming, piece, fragment, numbered, Agrees}
 use Rattle.networks.proofs.Laws.Boxes.{own-found, own-there}
 use Rattle.networks.proofs.Laws.Pieces.{box-piece, own-boxes-fragment}
 use Rattle.networks.proofs.Laws.Formed.{Formed, feeds-leaves}
@@ -32,15 +32,15 @@ module _ (𝓐 : Algebra) (N : NetworkOver 𝓐) (S : Sheet (𝓐 .Route)) (L : 
         go false e = absurd (false≢true e)
     kept-route i (own b) q = go (only k (number S (b .id))) refl (feeds N S (only k) (b .id)) refl (note S (b .id)) refl
       where
-        owned : isOwn (box N (b .id)) ≡ true
-        owned = ap isOwn (own-found N (λ (c : Own Route Demand). box N (c .id) ≡ some (own c)) i b (own-there N (formed .rise)) q)
+        owned : isOwnBox (box N (b .id)) ≡ true
+        owned = ap isOwnBox (own-found N (λ (c : Own Route Demand). box N (c .id) ≡ some (own c)) i b (own-there N (formed .rise)) q)
 
         noted : leaves N S (b .id) ≡ true → listed L (b .id) ≡ note S (b .id)
         noted = own-found N (λ (c : Own Route Demand). leaves N S (c .id) ≡ true → listed L (c .id) ≡ note S (c .id)) i b agrees q
 
         go : (s : Bool) → only k (number S (b .id)) ≡ s → (t : Bool) → feeds N S (only k) (b .id) ≡ t → (n : Option Route) → note S (b .id) ≡ n
-            → isBox (cond s (some (own (promising N S b))) (cond t (Option·map (assuming b) n) none)) ≡ true
-            → routeOf L (cond s (some (own (promising N S b))) (cond t (Option·map (assuming b) n) none)) ≡ listed L (b .id)
+            → isBox (cond s (some (own (promisingOwn N S b))) (cond t (Option·map (assuming b) n) none)) ≡ true
+            → routeOf L (cond s (some (own (promisingOwn N S b))) (cond t (Option·map (assuming b) n) none)) ≡ listed L (b .id)
         go true c t f n m e = refl
         go false c true f none m e = absurd (false≢true e)
         go false c true f (some n) m e = sym (noted (feeds-leaves N S formed (only k) (b .id) owned c f) ∙ m)

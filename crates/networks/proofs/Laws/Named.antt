@@ -5,15 +5,14 @@
 --     named-box                     it is the network's box with that id
 use mathlib.Core.Path.{_≡_, refl, subst}
 use mathlib.Core.Bool.{Bool, true, false, cond}
-use mathlib.Core.Option.{some}
+use mathlib.Core.Option.{some, Option·none-ne-some, Option·some-injective}
 use mathlib.Core.List.{List, [], _∷_}
 use Prim.Native.Nat.{ℕ, suc, _≤_, _<_}
 use native.Mathlib.Omega.{arith}
 use Rattle.lists.specs.All.{All}
-use Rattle.lists.specs.Filter.{some-inj, none-some}
 use Rattle.lists.specs.Sorted.{Rises}
 use Rattle.networks.specs.Network.{Own, own, Network, boxId, ownBoxes, box}
-use Rattle.networks.specs.Answer.{lowest}
+use Rattle.networks.specs.Lowest.{lowest}
 use Rattle.networks.proofs.Laws.Boxes.{own-there}
 
 module _ {R D : Type 0} (Hit Miss : Own R D → Type 0) where
@@ -58,12 +57,12 @@ Meets {R} {D} test = Named (λ (b : Own R D). test b ≡ true) (λ (b : Own R D)
 
 pub lowest-some : {R D : Type 0} (test : Own R D → Bool) (i lo : ℕ) (bs : List (Own R D)) → Rises (λ (b : Own R D). b .id) lo bs
     → lowest test bs ≡ some i → Meets test i lo bs
-lowest-some test i lo [] h e = absurd (none-some e)
+lowest-some test i lo [] h e = absurd (Option·none-ne-some _ e)
 lowest-some {R} {D} test i lo (b ∷ bs) h e = go (test b) refl e (lowest-some test i (suc (b .id)) bs (h .1))
   where
     go : (t : Bool) → test b ≡ t → cond t (some (b .id)) (lowest test bs) ≡ some i
         → (lowest test bs ≡ some i → Meets test i (suc (b .id)) bs) → Meets test i lo (b ∷ bs)
-    go true q z r = named-here _ _ i lo b bs h (some-inj z) q
+    go true q z r = named-here _ _ i lo b bs h (Option·some-injective _ _ z) q
     go false q z r = named-later _ _ i lo b bs h q (r z)
 
 -- the box that is named is the network's box with that id

@@ -1,11 +1,11 @@
 -- The order that the laws of choice make of `best`, and the best of several.
---     at-least-..      it is a total order, with no route as the worst
+--     at-least-..      a route is at least as good as itself, and so on from route to route
 --     bestOf-..        the best of several is at least as good as each, and is one of them
 use mathlib.Core.Path.{_≡_, refl, sym, ap, _∙_}
 use mathlib.Core.Bool.{true}
 use mathlib.Core.List.{List, [], _∷_}
 use mathlib.Core.Logic.{_⊎_, inl, inr, ⊎-elim}
-use Rattle.lists.specs.Test.{or-i-l, or-i-r}
+use Rattle.lists.proofs.Test.{or-i-l, or-i-r}
 use Rattle.lists.specs.All.{All, any}
 use Rattle.networks.specs.Algebra.{Algebra, Choice, AtLeast}
 use Rattle.networks.specs.Solution.{bestOf}
@@ -16,17 +16,8 @@ module _ (𝓐 : Algebra) (choice : Choice 𝓐) where
   pub at-least-self : (x : Route) → AtLeast 𝓐 x x
   at-least-self x = ⊎-elim (λ (e : best x x ≡ x). e) (λ (e : best x x ≡ x). e) (choice .selective x x)
 
-  pub at-least-both : (x y : Route) → AtLeast 𝓐 x y → AtLeast 𝓐 y x → x ≡ y
-  at-least-both x y e f = sym e ∙ choice .commutative x y ∙ f
-
   pub at-least-on : (x y z : Route) → AtLeast 𝓐 x y → AtLeast 𝓐 y z → AtLeast 𝓐 x z
   at-least-on x y z e f = ap (λ (u : Route). best u z) (sym e) ∙ choice .associative x y z ∙ ap (best x) f ∙ e
-
-  pub at-least-either : (x y : Route) → AtLeast 𝓐 x y ⊎ AtLeast 𝓐 y x
-  at-least-either x y = ⊎-elim (λ (e : best x y ≡ x). inl e) (λ (e : best x y ≡ y). inr (choice .commutative y x ∙ e)) (choice .selective x y)
-
-  pub at-least-none : (x : Route) → AtLeast 𝓐 x noRoute
-  at-least-none = choice .none-worst
 
   best-first : (x y : Route) → AtLeast 𝓐 (best x y) x
   best-first x y = choice .commutative (best x y) x ∙ sym (choice .associative x x y) ∙ ap (λ (u : Route). best u y) (at-least-self x)

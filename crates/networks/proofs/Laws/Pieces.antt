@@ -5,35 +5,38 @@
 --     sends-fragment, wires-into-fragment     its wires
 use mathlib.Core.Path.{_≡_, refl, sym, ap, _∙_, subst}
 use mathlib.Core.Bool.{Bool, true, false, cond, and-comm}
-use mathlib.Core.Option.{Option, none, some, Option·map, bind}
+use mathlib.Core.Option.{Option, none, some, Option·map, bind, Option·none-ne-some, Option·some-injective}
 use mathlib.Core.List.{map, filterMap-filterMap}
 use Prim.Native.Nat.{ℕ}
 use lib.Dec.{eqb}
 use borrow.Author.Tests.{eqb-true}
-use Rattle.lists.specs.Test.{and-absorb}
-use Rattle.lists.specs.All.{All, all-map, all-both, all-of, any-congr}
-use Rattle.lists.specs.Filter.{some-inj, none-some, filter, filter-filter, filter-congr, any-filter, all-filter, filtered-all, all-mapped, mapped-all, map-filter, filterMap-congr, all-filterMap, filterMap-all}
-use Rattle.lists.specs.Sorted.{Rises, rises-filterMap, find-filterMap}
+use Rattle.lists.proofs.Test.{and-absorb}
+use Rattle.lists.specs.All.{All}
+use Rattle.lists.proofs.All.{all-map, all-both, all-of, any-congr}
+use Rattle.lists.specs.Filter.{filter}
+use Rattle.lists.proofs.Filter.{filter-filter, filter-congr, any-filter, all-filter, filtered-all, all-mapped, mapped-all, map-filter, filterMap-congr, all-filterMap, filterMap-all}
+use Rattle.lists.specs.Sorted.{Rises}
+use Rattle.lists.proofs.Sorted.{rises-filterMap, find-filterMap}
 use Rattle.networks.specs.Network.{Own, Input, Box, own, input, Wire, Network, boxId, asOwn, asInput, ownBoxes, inputs, box, wiresInto}
 use Rattle.networks.specs.Sound.{sends}
 use Rattle.networks.specs.Sheets.{Sheet, number, note}
-use Rattle.networks.specs.Cut.{feeds, promising, assuming, piece, fragmentOf}
+use Rattle.networks.specs.Cut.{feeds, promisingOwn, assuming, piece, fragmentOf}
 
 module _ {R P D : Type 0} (N : Network R P D) (S : Sheet R) (κ : ℕ → Bool) where
   -- what is kept of a box has its id
   pub piece-id : (v w : Box R D) → piece N S κ v ≡ some w → boxId w ≡ boxId v
   piece-id (own b) w e = go (κ (number S (b .id))) (feeds N S κ (b .id)) (note S (b .id)) e
     where
-      go : (s t : Bool) (n : Option R) → cond s (some (own (promising N S b))) (cond t (Option·map (assuming b) n) none) ≡ some w → boxId w ≡ b .id
-      go true t n q = ap boxId (sym (some-inj q))
-      go false true (some n) q = ap boxId (sym (some-inj q))
-      go false true none q = absurd (none-some q)
-      go false false n q = absurd (none-some q)
+      go : (s t : Bool) (n : Option R) → cond s (some (own (promisingOwn N S b))) (cond t (Option·map (assuming b) n) none) ≡ some w → boxId w ≡ b .id
+      go true t n q = ap boxId (sym (Option·some-injective _ _ q))
+      go false true (some n) q = ap boxId (sym (Option·some-injective _ _ q))
+      go false true none q = absurd (Option·none-ne-some _ q)
+      go false false n q = absurd (Option·none-ne-some _ q)
   piece-id (input a) w e = go (feeds N S κ (a .id)) e
     where
       go : (t : Bool) → cond t (some (input a)) none ≡ some w → boxId w ≡ a .id
-      go true q = ap boxId (sym (some-inj q))
-      go false q = absurd (none-some q)
+      go true q = ap boxId (sym (Option·some-injective _ _ q))
+      go false q = absurd (Option·none-ne-some _ q)
 
   pub pieces-rise : Rises boxId 0 (N .boxes) → Rises boxId 0 (fragmentOf N S κ .boxes)
   unfolding fragmentOf
@@ -47,12 +50,12 @@ module _ {R P D : Type 0} (N : Network R P D) (S : Sheet R) (κ : ℕ → Bool) 
   abbrev mine : Own R D → Bool
   mine b = κ (number S (b .id))
 
-  own-piece : (v : Box R D) → bind (piece N S κ v) asOwn ≡ bind (asOwn v) (λ (b : Own R D). cond (mine b) (some (promising N S b)) none)
+  own-piece : (v : Box R D) → bind (piece N S κ v) asOwn ≡ bind (asOwn v) (λ (b : Own R D). cond (mine b) (some (promisingOwn N S b)) none)
   unfolding bind
   own-piece (own b) = go (mine b) (feeds N S κ (b .id)) (note S (b .id))
     where
-      go : (s t : Bool) (n : Option R) → bind (cond s (some (own (promising N S b))) (cond t (Option·map (assuming b) n) none)) asOwn ≡ cond s
-          (some (promising N S b)) none
+      go : (s t : Bool) (n : Option R) → bind (cond s (some (own (promisingOwn N S b))) (cond t (Option·map (assuming b) n) none)) asOwn ≡ cond s
+          (some (promisingOwn N S b)) none
       go true t n = refl
       go false true (some n) = refl
       go false true none = refl
@@ -63,24 +66,24 @@ module _ {R P D : Type 0} (N : Network R P D) (S : Sheet R) (κ : ℕ → Bool) 
       go true = refl
       go false = refl
 
-  -- a fragment's own boxes are those with its numbers, each promising its note where a cut wire leaves it
-  pub own-boxes-fragment : ownBoxes (fragmentOf N S κ) ≡ map (promising N S) (filter (λ (b : Own R D). κ (number S (b .id))) (ownBoxes N))
+  -- a fragment's own boxes are those with its numbers, each promisingOwn its note where a cut wire leaves it
+  pub own-boxes-fragment : ownBoxes (fragmentOf N S κ) ≡ map (promisingOwn N S) (filter (λ (b : Own R D). κ (number S (b .id))) (ownBoxes N))
   unfolding fragmentOf
   own-boxes-fragment =
       filterMap-filterMap (piece N S κ) asOwn (N .boxes)
       ∙ filterMap-congr _ _ (N .boxes) (all-of (N .boxes) own-piece)
-      ∙ sym (filterMap-filterMap asOwn (λ (b : Own R D). cond (mine b) (some (promising N S b)) none) (N .boxes))
-      ∙ sym (map-filter (promising N S) mine (ownBoxes N))
+      ∙ sym (filterMap-filterMap asOwn (λ (b : Own R D). cond (mine b) (some (promisingOwn N S b)) none) (N .boxes))
+      ∙ sym (map-filter (promisingOwn N S) mine (ownBoxes N))
 
-  pub own-kept : (Q : Own R D → Type 0) → All (λ (b : Own R D). κ (number S (b .id)) ≡ true → Q (promising N S b)) (ownBoxes N)
+  pub own-kept : (Q : Own R D → Type 0) → All (λ (b : Own R D). κ (number S (b .id)) ≡ true → Q (promisingOwn N S b)) (ownBoxes N)
       → All Q (ownBoxes (fragmentOf N S κ))
-  own-kept Q h = rw own-boxes-fragment (all-mapped Q (promising N S) (filter mine (ownBoxes N))
-      (all-filter (λ (b : Own R D). Q (promising N S b)) mine (ownBoxes N) h))
+  own-kept Q h = rw own-boxes-fragment (all-mapped Q (promisingOwn N S) (filter mine (ownBoxes N))
+      (all-filter (λ (b : Own R D). Q (promisingOwn N S b)) mine (ownBoxes N) h))
 
   pub kept-own : (Q : Own R D → Type 0) → All Q (ownBoxes (fragmentOf N S κ))
-      → All (λ (b : Own R D). κ (number S (b .id)) ≡ true → Q (promising N S b)) (ownBoxes N)
-  kept-own Q h = filtered-all (λ (b : Own R D). Q (promising N S b)) mine (ownBoxes N)
-      (mapped-all Q (promising N S) (filter mine (ownBoxes N)) (rw own-boxes-fragment at h))
+      → All (λ (b : Own R D). κ (number S (b .id)) ≡ true → Q (promisingOwn N S b)) (ownBoxes N)
+  kept-own Q h = filtered-all (λ (b : Own R D). Q (promisingOwn N S b)) mine (ownBoxes N)
+      (mapped-all Q (promisingOwn N S) (filter mine (ownBoxes N)) (rw own-boxes-fragment at h))
 
   -- inputs: those of the network that feed the fragment, and the own boxes of other numbers that do
   pub inputs-kept : (Q : Input R → Type 0)
@@ -100,16 +103,16 @@ module _ {R P D : Type 0} (N : Network R P D) (S : Sheet R) (κ : ℕ → Bool) 
       at (input c) f w e a q = go (feeds N S κ (c .id)) refl e
         where
           go : (t : Bool) → feeds N S κ (c .id) ≡ t → cond t (some (input c)) none ≡ some w → Q a
-          go true s z = subst Q (some-inj (ap asInput (some-inj z) ∙ q)) (f .0 c refl s)
-          go false s z = absurd (none-some z)
+          go true s z = subst Q (Option·some-injective _ _ (ap asInput (Option·some-injective _ _ z) ∙ q)) (f .0 c refl s)
+          go false s z = absurd (Option·none-ne-some _ z)
       at (own b) f w e a q = go (mine b) refl (feeds N S κ (b .id)) refl (note S (b .id)) refl e
         where
           go : (s : Bool) → mine b ≡ s → (t : Bool) → feeds N S κ (b .id) ≡ t → (n : Option R) → note S (b .id) ≡ n
-              → cond s (some (own (promising N S b))) (cond t (Option·map (assuming b) n) none) ≡ some w → Q a
-          go true s t u n m z = absurd (none-some (ap asInput (some-inj z) ∙ q))
-          go false s true u (some n) m z = subst Q (some-inj (ap asInput (some-inj z) ∙ q)) (f .1 b refl s u n m)
-          go false s true u none m z = absurd (none-some z)
-          go false s false u n m z = absurd (none-some z)
+              → cond s (some (own (promisingOwn N S b))) (cond t (Option·map (assuming b) n) none) ≡ some w → Q a
+          go true s t u n m z = absurd (Option·none-ne-some _ (ap asInput (Option·some-injective _ _ z) ∙ q))
+          go false s true u (some n) m z = subst Q (Option·some-injective _ _ (ap asInput (Option·some-injective _ _ z) ∙ q)) (f .1 b refl s u n m)
+          go false s true u none m z = absurd (Option·none-ne-some _ z)
+          go false s false u n m z = absurd (Option·none-ne-some _ z)
 
   pub kept-inputs : (Q : Input R → Type 0) → All Q (inputs (fragmentOf N S κ)) → All (λ (a : Input R). feeds N S κ (a .id) ≡ true → Q a) (inputs N)
   unfolding fragmentOf
@@ -118,8 +121,8 @@ module _ {R P D : Type 0} (N : Network R P D) (S : Sheet R) (κ : ℕ → Bool) 
     where
       at : (v : Box R D) → ((w : Box R D) → piece N S κ v ≡ some w → (a : Input R) → asInput w ≡ some a → Q a)
           → (a : Input R) → asInput v ≡ some a → feeds N S κ (a .id) ≡ true → Q a
-      at (own b) f a e t = absurd (none-some e)
-      at (input c) f a e t = subst Q (some-inj e) (f (input c) (rw (ap (λ (d : Input R). feeds N S κ (d .id)) (some-inj e) ∙ t) refl) c refl)
+      at (own b) f a e t = absurd (Option·none-ne-some _ e)
+      at (input c) f a e t = subst Q (Option·some-injective _ _ e) (f (input c) (rw (ap (λ (d : Input R). feeds N S κ (d .id)) (Option·some-injective _ _ e) ∙ t) refl) c refl)
 
   -- wires: one of the fragment leads out of exactly the boxes that feed it
   pub sends-fragment : (i : ℕ) → sends (fragmentOf N S κ) i ≡ feeds N S κ i

@@ -9,19 +9,21 @@ use mathlib.Core.Option.{Option, none, some, bind}
 use Prim.Native.Nat.{ℕ}
 use lib.Dec.{eqb}
 use borrow.Author.Tests.{eqb-true, eqb-false, eq-eqb, ne-eqb, not-true}
-use Rattle.lists.specs.Test.{and-l, and-r, and-i, or-i-l, same-test}
-use Rattle.lists.specs.All.{all-map, all-of, any, any-congr, any-mono, any-found, false-any}
-use Rattle.lists.specs.Filter.{any-filter}
-use Rattle.lists.specs.Sorted.{find-key}
-use Rattle.networks.specs.Network.{Own, Input, Box, own, input, Wire, Network, boxId, isBox, isOwn, box, hasBox, owns}
+use Rattle.lists.proofs.Test.{and-l, and-r, and-i, or-i-l, same-test}
+use Rattle.lists.proofs.All.{all-map, all-of, any-congr, any-mono, any-found, false-any}
+use Rattle.lists.specs.All.{any}
+use Rattle.lists.proofs.Filter.{any-filter}
+use Rattle.lists.proofs.Sorted.{find-key}
+use Rattle.networks.specs.Network.{Own, Input, Box, own, input, Wire, Network, boxId, isBox, isOwnBox, box, hasBox, owns}
 use Rattle.networks.specs.Sound.{Joined}
 use Rattle.networks.specs.Sheets.{Sheet, number, note}
-use Rattle.networks.specs.Answer.{isSome, Entered}
-use Rattle.networks.specs.Cut.{only, promised, assuming, isCut, leaves, feeds, promising, piece, fragmentOf, fragment}
-use Rattle.networks.specs.Paper.{assumedOf, init, ass, guar, V-in, V-out, E, W, wiredInto, cutInto, V-in-k, V-out-k, V-k, E-k, ass-k, guar-k}
+use Rattle.lists.specs.Answer.{isSome}
+use Rattle.networks.specs.Lowest.{Entered}
+use Rattle.networks.specs.Cut.{only, promised, assuming, isCut, leaves, feeds, promisingOwn, piece, fragmentOf, fragment}
+use Rattle.networks.specs.Paper.{assumedOf, init, ass, guar, V-in, V-out, E, W, wiredInto, cutWireInto, V-in-k, V-out-k, V-k, E-k, ass-k, guar-k}
 use Rattle.networks.proofs.Laws.Boxes.{own-found}
 use Rattle.networks.proofs.Laws.Pieces.{box-piece}
-use Rattle.networks.proofs.Laws.Answers.{isSome-true}
+use Rattle.lists.proofs.Answer.{isSome-true}
 use Rattle.networks.proofs.Laws.Formed.{Formed, fragment-formed}
 
 -- what holds at every id: it has no box, an input or an own box
@@ -45,7 +47,7 @@ module _ {R P D : Type 0} (N : Network R P D) (S : Sheet R) (k : ℕ) (formed : 
   unfolding feeds
   into-feeds u = any-congr _ _ (N .wires) (all-map (N .wires) (λ w h. rw (h .to-own) refl) (formed .joined))
 
-  no-cut-into : (u : ℕ) → owns N u ≡ false → cutInto N S k u ≡ false
+  no-cut-into : (u : ℕ) → owns N u ≡ false → cutWireInto N S k u ≡ false
   no-cut-into u f = false-any _ (N .wires) (all-map (N .wires) at (formed .joined))
     where
       at : (w : Wire) → Joined N w → eqb (w .from) u && (isCut N S w && W N S k (w .to)) ≡ false
@@ -56,7 +58,7 @@ module _ {R P D : Type 0} (N : Network R P D) (S : Sheet R) (k : ℕ) (formed : 
           go false q = refl
           go true q = rw (eqb-true (w .from) u q, f) refl
 
-  cut-feeds : (u : ℕ) → owns N u ≡ true → cutInto N S k u ≡ not (only k (number S u)) && feeds N S (only k) u
+  cut-feeds : (u : ℕ) → owns N u ≡ true → cutWireInto N S k u ≡ not (only k (number S u)) && feeds N S (only k) u
   unfolding feeds
   cut-feeds u t = same-test _ _ forth back
     where
@@ -70,7 +72,7 @@ module _ {R P D : Type 0} (N : Network R P D) (S : Sheet R) (k : ℕ) (formed : 
             and-r (owns N (w .to)) _ (and-r (isCut N S w) (W N S k (w .to)) i),
           )
 
-      forth : cutInto N S k u ≡ true → not (only k (number S u)) && any (λ (w : Wire). eqb (w .from) u && only k (number S (w .to))) (N .wires) ≡ true
+      forth : cutWireInto N S k u ≡ true → not (only k (number S u)) && any (λ (w : Wire). eqb (w .from) u && only k (number S (w .to))) (N .wires) ≡ true
       forth e =
           let f = any-found (λ (w : Wire). eqb (w .from) u && (isCut N S w && W N S k (w .to))) (N .wires) (formed .joined) e in
           let w = f .0 in
@@ -80,7 +82,7 @@ module _ {R P D : Type 0} (N : Network R P D) (S : Sheet R) (k : ℕ) (formed : 
           (eqb-true (number S (w .to)) k (g .2) ∙ sym q ∙ ap (number S) (sym (g .0))))))
           (any-mono _ _ (N .wires) (all-of (N .wires) (λ v h. let p = parts v h in and-i _ _ (eq-eqb (v .from) u (p .0)) (p .2))) e)
 
-      back : not (only k (number S u)) && any (λ (w : Wire). eqb (w .from) u && only k (number S (w .to))) (N .wires) ≡ true → cutInto N S k u ≡ true
+      back : not (only k (number S u)) && any (λ (w : Wire). eqb (w .from) u && only k (number S (w .to))) (N .wires) ≡ true → cutWireInto N S k u ≡ true
       back e = any-mono _ _ (N .wires) (all-map (N .wires) at (formed .joined)) (and-r (not (only k (number S u))) _ e)
         where
           out : number S u ≡ k → ⊥
@@ -110,7 +112,7 @@ module _ {R P D : Type 0} (N : Network R P D) (S : Sheet R) (k : ℕ) (formed : 
   unfolding bind
   at-none i q =
       let e : box F i ≡ none = rw (box-piece N S (only k) (formed .rise) i, q) refl in
-      let c : cutInto N S k i ≡ false = no-cut-into i (rw q refl) in
+      let c : cutWireInto N S k i ≡ false = no-cut-into i (rw q refl) in
       record {
         own-at = rw (e, q) refl;
         input-at = rw (e, q, c) refl;
@@ -139,7 +141,7 @@ module _ {R P D : Type 0} (N : Network R P D) (S : Sheet R) (k : ℕ) (formed : 
       go false f =
           let e : box F (a .id) ≡ none = rw (box-piece N S (only k) (formed .rise) (a .id), q, f) refl in
           let i : wiredInto N S k (a .id) ≡ false = into-feeds (a .id) ∙ f in
-          let c : cutInto N S k (a .id) ≡ false = no-cut-into (a .id) (rw q refl) in
+          let c : cutWireInto N S k (a .id) ≡ false = no-cut-into (a .id) (rw q refl) in
           record {
             own-at = rw (e, q) refl;
             input-at = rw (e, q, i, c) refl;
@@ -170,8 +172,8 @@ module _ {R P D : Type 0} (N : Network R P D) (S : Sheet R) (k : ℕ) (formed : 
 
       go : (s : Bool) → only k (number S (b .id)) ≡ s → (t : Bool) → feeds N S (only k) (b .id) ≡ t → (n : R) × (note S (b .id) ≡ some n) → At (b .id)
       go true s t f n =
-          let e : box F (b .id) ≡ some (own (promising N S b)) = piece-is ∙ rw s refl in
-          let c : cutInto N S k (b .id) ≡ false = cut-feeds (b .id) (rw q refl) ∙ rw s refl in
+          let e : box F (b .id) ≡ some (own (promisingOwn N S b)) = piece-is ∙ rw s refl in
+          let c : cutWireInto N S k (b .id) ≡ false = cut-feeds (b .id) (rw q refl) ∙ rw s refl in
           record {
             own-at = rw (e, q, s) refl;
             input-at = rw (e, q, c) refl;
@@ -182,7 +184,7 @@ module _ {R P D : Type 0} (N : Network R P D) (S : Sheet R) (k : ℕ) (formed : 
           }
       go false s true f n =
           let e : box F (b .id) ≡ some (assuming b (n .0)) = piece-is ∙ rw (s, f, n .1) refl in
-          let c : cutInto N S k (b .id) ≡ true = cut-feeds (b .id) (rw q refl) ∙ rw (s, f) refl in
+          let c : cutWireInto N S k (b .id) ≡ true = cut-feeds (b .id) (rw q refl) ∙ rw (s, f) refl in
           record {
             own-at = rw (e, q, s) refl;
             input-at = rw (e, q, c) refl;
@@ -193,7 +195,7 @@ module _ {R P D : Type 0} (N : Network R P D) (S : Sheet R) (k : ℕ) (formed : 
           }
       go false s false f n =
           let e : box F (b .id) ≡ none = piece-is ∙ rw (s, f) refl in
-          let c : cutInto N S k (b .id) ≡ false = cut-feeds (b .id) (rw q refl) ∙ rw (s, f) refl in
+          let c : cutWireInto N S k (b .id) ≡ false = cut-feeds (b .id) (rw q refl) ∙ rw (s, f) refl in
           record {
             own-at = rw (e, q, s) refl;
             input-at = rw (e, q, c) refl;
@@ -211,12 +213,12 @@ module _ {R P D : Type 0} (N : Network R P D) (S : Sheet R) (k : ℕ) (formed : 
   unfolding fragmentOf
   kept-edge u v = any-filter (λ (w : Wire). only k (number S (w .to))) (λ (w : Wire). eqb (w .from) u && eqb (w .to) v) (N .wires)
 
-  box-either : (o : Option (Box R D)) → isBox o ≡ isOwn o || isSome (assumedOf o)
+  box-either : (o : Option (Box R D)) → isBox o ≡ isOwnBox o || isSome (assumedOf o)
   box-either none = refl
   box-either (some (own b)) = refl
   box-either (some (input a)) = refl
 
-  own-not-input : (o : Option (Box R D)) → isOwn o ≡ true → isSome (assumedOf o) ≡ false
+  own-not-input : (o : Option (Box R D)) → isOwnBox o ≡ true → isSome (assumedOf o) ≡ false
   own-not-input none t = refl
   own-not-input (some (own b)) t = refl
   own-not-input (some (input a)) t = absurd (false≢true t)

@@ -6,19 +6,21 @@
 --     both-numbered               the own boxes that are in both
 use mathlib.Core.Path.{_≡_, refl, sym, ap, ap₂, _∙_}
 use mathlib.Core.Bool.{Bool, true, false, cond, not, _&&_, _||_, false≢true}
-use mathlib.Core.Option.{Option, none, some, Option·map, bind}
+use mathlib.Core.Option.{Option, none, some, Option·map, bind, Option·none-ne-some}
 use mathlib.Core.List.{filterMap, filterMap-filterMap}
 use Prim.Native.Nat.{ℕ}
 use lib.Dec.{eqb}
 use borrow.Author.Tests.{eqb-true, eq-eqb}
-use Rattle.lists.specs.Test.{and-l, and-r, and-i, same-test}
-use Rattle.lists.specs.All.{All, all-map, all-both, any, any-congr, any-mono, any-or}
-use Rattle.lists.specs.Filter.{none-some, filter, filter-filter, filter-congr, any-filter, any-mapped, filterMap-congr}
-use Rattle.lists.specs.Sorted.{find-self}
-use Rattle.networks.specs.Network.{Own, Box, own, input, Wire, Network, boxId, isOwn, ownBoxes, owns}
+use Rattle.lists.proofs.Test.{and-l, and-r, and-i, same-test}
+use Rattle.lists.specs.All.{All, any}
+use Rattle.lists.proofs.All.{all-map, all-both, any-congr, any-mono, any-or}
+use Rattle.lists.specs.Filter.{filter}
+use Rattle.lists.proofs.Filter.{filter-filter, filter-congr, any-filter, any-mapped, filterMap-congr}
+use Rattle.lists.proofs.Sorted.{find-self}
+use Rattle.networks.specs.Network.{Own, Box, own, input, Wire, Network, boxId, isOwnBox, ownBoxes, owns}
 use Rattle.networks.specs.Sheets.{Sheet, number, note}
-use Rattle.networks.specs.Answer.{isSome}
-use Rattle.networks.specs.Cut.{only, promised, assuming, leaves, feeds, promising, piece, fragmentOf, fragment, numbered, Third}
+use Rattle.lists.specs.Answer.{isSome}
+use Rattle.networks.specs.Cut.{only, promised, assuming, leaves, feeds, promisingOwn, piece, fragmentOf, fragment, numbered, Third}
 use Rattle.networks.proofs.Laws.Boxes.{own-there, own-fact}
 use Rattle.networks.proofs.Laws.Pieces.{own-boxes-fragment, own-kept}
 use Rattle.networks.proofs.Laws.Formed.{Formed, leaves-own, owns-fragment, fragment-formed}
@@ -66,7 +68,7 @@ pub both-numbered : {R P D : Type 0} (N : Network R P D) (X Y : Sheet R) (x y : 
     → any (numbered (fragment N X x) Y y) (ownBoxes (fragment N X x)) ≡ any (λ (b : Own R D). numbered N X x b && numbered N Y y b) (ownBoxes N)
 both-numbered N X Y x y =
     ap (any (numbered (fragment N X x) Y y)) (own-boxes-fragment N X (only x))
-    ∙ any-mapped (numbered (fragment N X x) Y y) (promising N X) (filter (numbered N X x) (ownBoxes N))
+    ∙ any-mapped (numbered (fragment N X x) Y y) (promisingOwn N X) (filter (numbered N X x) (ownBoxes N))
     ∙ any-filter (numbered N X x) (numbered N Y y) (ownBoxes N)
 
 module _ {R P D : Type 0} (N : Network R P D) (X Y Z : Sheet R) (formed : Formed N) (fits : Fits N Z) (third : Third X Y Z) where
@@ -85,7 +87,7 @@ module _ {R P D : Type 0} (N : Network R P D) (X Y Z : Sheet R) (formed : Formed
 
   -- own boxes with what is known of each
   own-all : (Q : Own R D → Type 0) → All (λ (b : Own R D). owns N (b .id) ≡ true → Q b) (ownBoxes N) → All Q (ownBoxes N)
-  own-all Q h = all-map (ownBoxes N) (λ b f. f .1 (ap isOwn (f .0))) (all-both _ _ (ownBoxes N) (own-there N (formed .rise)) h)
+  own-all Q h = all-map (ownBoxes N) (λ b f. f .1 (ap isOwnBox (f .0))) (all-both _ _ (ownBoxes N) (own-there N (formed .rise)) h)
 
   first-leaves : (i : ℕ) → owns N i ≡ true → leaves N X i ≡ true → leaves N Z i ≡ true
   first-leaves i t = rw (leaves-own N X formed i t, leaves-own N Z formed i t) (any-mono _ _ (N .wires)
@@ -132,7 +134,7 @@ module _ {R P D : Type 0} (N : Network R P D) (X Y Z : Sheet R) (formed : Formed
             → note Y i ≡ some q
         promise i (some r) l f q e = third .second-notes i ∙ f q e
         promise i none true f q e = third .second-notes i ∙ sym (third .first-notes i) ∙ e
-        promise i none false f q e = absurd (none-some e)
+        promise i none false f q e = absurd (Option·none-ne-some _ e)
 
         at : (b : Own R D) → (leaves N Z (b .id) ≡ true → (q : R) → b .promise ≡ some q → note Z (b .id) ≡ some q)
             → owns N (b .id) ≡ true → eqb (number X (b .id)) x ≡ true → leaves inner Y (b .id) ≡ true
@@ -186,7 +188,7 @@ module _ {R P D : Type 0} (N : Network R P D) (X Y Z : Sheet R) (formed : Formed
           go false true f q = absurd (false≢true (f refl))
           go false false f q = refl
 
-      same-box : (v : Box R D) → (isOwn (some v) ≡ true → owns N (boxId v) ≡ true)
+      same-box : (v : Box R D) → (isOwnBox (some v) ≡ true → owns N (boxId v) ≡ true)
           → bind (piece N X (only x) v) (piece inner Y (only y)) ≡ piece N Z (only z) v
       unfolding bind
       same-box (input a) f = same-input (a .id) (a .assumed)
@@ -226,7 +228,7 @@ module _ {R P D : Type 0} (N : Network R P D) (X Y Z : Sheet R) (formed : Formed
         where
           same-boxes : filterMap (piece inner Y (only y)) (filterMap (piece N X (only x)) (N .boxes)) ≡ filterMap (piece N Z (only z)) (N .boxes)
           same-boxes = filterMap-filterMap (piece N X (only x)) (piece inner Y (only y)) (N .boxes)
-              ∙ filterMap-congr _ _ (N .boxes) (all-map (N .boxes) (λ v e. same-box v (λ o. ap isOwn e ∙ o))
+              ∙ filterMap-congr _ _ (N .boxes) (all-map (N .boxes) (λ v e. same-box v (λ o. ap isOwnBox e ∙ o))
               (find-self boxId 0 (N .boxes) (formed .rise)))
 
           same-wires : filter (λ (w : Wire). only y (number Y (w .to))) (filter (λ (w : Wire). only x (number X (w .to))) (N .wires)) ≡ filter

@@ -7,21 +7,22 @@
 --     fragment-solved                and back
 use mathlib.Core.Path.{_≡_, refl, sym, ap, _∙_, subst}
 use mathlib.Core.Bool.{Bool, true, false, _&&_, false≢true}
-use mathlib.Core.Option.{Option, none, some}
+use mathlib.Core.Option.{Option, none, some, Option·none-ne-some, Option·some-injective}
 use mathlib.Core.List.{List, map}
 use Prim.Native.Nat.{ℕ}
 use lib.Dec.{eqb}
 use borrow.Author.Tests.{eqb-true, eq-eqb}
-use Rattle.lists.specs.Test.{and-i}
-use Rattle.lists.specs.All.{All, all-map, all-both, all-each, any-found, any-here}
-use Rattle.lists.specs.Filter.{some-inj, none-some, all-filter, map-congr}
+use Rattle.lists.proofs.Test.{and-i}
+use Rattle.lists.specs.All.{All}
+use Rattle.lists.proofs.All.{all-map, all-both, all-each, any-found, any-here}
+use Rattle.lists.proofs.Filter.{all-filter, map-congr}
 use Rattle.networks.specs.Algebra.{Algebra}
-use Rattle.networks.specs.Network.{Own, Input, Wire, Network, isBox, isOwn, ownBoxes, inputs, hasBox, wiresInto}
+use Rattle.networks.specs.Network.{Own, Input, Wire, Network, isBox, isOwnBox, ownBoxes, inputs, hasBox, wiresInto}
 use Rattle.networks.specs.Sound.{sends}
 use Rattle.networks.specs.Sheets.{Sheet, number, note}
-use Rattle.networks.specs.Answer.{isSome}
+use Rattle.lists.specs.Answer.{isSome}
 use Rattle.networks.specs.Solution.{trans, bestOf, due, Solution}
-use Rattle.networks.specs.Cut.{only, promised, leaves, feeds, promising, fragmentOf, fragment, Agrees}
+use Rattle.networks.specs.Cut.{only, promised, leaves, feeds, promisingOwn, fragmentOf, fragment, Agrees}
 use Rattle.networks.proofs.Laws.Boxes.{own-there, input-there}
 use Rattle.networks.proofs.Laws.Pieces.{own-kept, kept-own, inputs-kept, kept-inputs, wires-into-fragment}
 use Rattle.networks.proofs.Laws.Formed.{Formed, feeds-leaves}
@@ -29,21 +30,21 @@ use Rattle.networks.proofs.Laws.Cutting.{Fits}
 
 -- what the own boxes of every fragment have, every own box has as its fragment has it
 pub everywhere : {R P D : Type 0} (N : Network R P D) (S : Sheet R) (Q : ℕ → Own R D → Type 0)
-    → ((k : ℕ) → All (Q k) (ownBoxes (fragment N S k))) → All (λ (b : Own R D). Q (number S (b .id)) (promising N S b)) (ownBoxes N)
+    → ((k : ℕ) → All (Q k) (ownBoxes (fragment N S k))) → All (λ (b : Own R D). Q (number S (b .id)) (promisingOwn N S b)) (ownBoxes N)
 everywhere {R} {P} {D} N S Q h =
     all-map (ownBoxes N) (λ b f. f (number S (b .id)) (eq-eqb (number S (b .id)) (number S (b .id)) refl))
-    (all-each (λ (k : ℕ) (b : Own R D). eqb (number S (b .id)) k ≡ true → Q k (promising N S b)) (ownBoxes N)
+    (all-each (λ (k : ℕ) (b : Own R D). eqb (number S (b .id)) k ≡ true → Q k (promisingOwn N S b)) (ownBoxes N)
     (λ k. kept-own N S (only k) (Q k) (h k)))
 
 -- and back
 pub anywhere : {R P D : Type 0} (N : Network R P D) (S : Sheet R) (Q : ℕ → Own R D → Type 0)
-    → All (λ (b : Own R D). Q (number S (b .id)) (promising N S b)) (ownBoxes N) → (k : ℕ) → All (Q k) (ownBoxes (fragment N S k))
+    → All (λ (b : Own R D). Q (number S (b .id)) (promisingOwn N S b)) (ownBoxes N) → (k : ℕ) → All (Q k) (ownBoxes (fragment N S k))
 anywhere N S Q h k =
-    own-kept N S (only k) (Q k) (all-map (ownBoxes N) (λ b f e. subst (λ (n : ℕ). Q n (promising N S b)) (eqb-true (number S (b .id)) k e) f) h)
+    own-kept N S (only k) (Q k) (all-map (ownBoxes N) (λ b f e. subst (λ (n : ℕ). Q n (promisingOwn N S b)) (eqb-true (number S (b .id)) k e) f) h)
 
 -- a promise in a fragment: the network's own, and the note where a cut wire leaves
 promised-own : {R : Type 0} (x : R) (p n : Option R) (left : Bool) → ((q : R) → promised p left n ≡ some q → x ≡ q) → (q : R) → p ≡ some q → x ≡ q
-promised-own x none n left g q e = absurd (none-some e)
+promised-own x none n left g q e = absurd (Option·none-ne-some _ e)
 promised-own x (some y) n left g q e = g q e
 
 pub promised-note : {R : Type 0} (x : R) (p n : Option R) (left : Bool) → left ≡ true → isSome n ≡ true → ((q : R) → p ≡ some q → n ≡ some q)
@@ -55,8 +56,8 @@ promised-note x (some q) n left l s f g = ap some (g q refl) ∙ sym (f q refl)
 
 own-promised : {R : Type 0} (x : R) (p n : Option R) (left : Bool) → (left ≡ true → some x ≡ n) → ((q : R) → p ≡ some q → x ≡ q) → (q : R)
     → promised p left n ≡ some q → x ≡ q
-own-promised x none n true f g q e = some-inj (f refl ∙ e)
-own-promised x none n false f g q e = absurd (none-some e)
+own-promised x none n true f g q e = Option·some-injective _ _ (f refl ∙ e)
+own-promised x none n false f g q e = absurd (Option·none-ne-some _ e)
 own-promised x (some y) n left f g q e = g q e
 
 module _ (𝓐 : Algebra) where
@@ -80,7 +81,7 @@ module _ (𝓐 : Algebra) where
     }
 
   pub due-fragment : (N : Network Route Policy Demand) (S : Sheet Route) (ℒ : ℕ → Route) (b : Own Route Demand)
-      → due 𝓐 (fragment N S (number S (b .id))) ℒ (promising N S b) ≡ due 𝓐 N ℒ b
+      → due 𝓐 (fragment N S (number S (b .id))) ℒ (promisingOwn N S b) ≡ due 𝓐 N ℒ b
   unfolding due fragmentOf
   due-fragment N S ℒ b = ap (λ (ws : List Wire). bestOf 𝓐 (b .initial) (map (λ (w : Wire). trans 𝓐 N w (ℒ (w .from))) ws))
       (wires-into-fragment N S (only (number S (b .id))) (b .id) (eq-eqb (number S (b .id)) (number S (b .id)) refl))
@@ -126,7 +127,7 @@ module _ (𝓐 : Algebra) where
           (all-map (ownBoxes N) (λ b e. e ∙ sym (due-fragment N S ℒ b)) (h .equation-6)) k;
       equation-7 = inputs-kept N S (only k) (λ (a : Input Route). ℒ (a .id) ≡ a .assumed)
           (all-map (inputs N) (λ a e t. e) (h .equation-7))
-          (all-map (ownBoxes N) (λ b f s t n e. some-inj (f .1 (feeds-leaves N S formed (only k) (b .id) (ap isOwn (f .0)) s t) ∙ e))
+          (all-map (ownBoxes N) (λ b f s t n e. Option·some-injective _ _ (f .1 (feeds-leaves N S formed (only k) (b .id) (ap isOwnBox (f .0)) s t) ∙ e))
           (all-both _ _ (ownBoxes N) (own-there N (formed .rise)) agrees));
       equation-8 = anywhere N S (λ (m : ℕ) (b : Own Route Demand). (q : Route) → b .promise ≡ some q → ℒ (b .id) ≡ q)
           (all-map (ownBoxes N) (λ b f. own-promised (ℒ (b .id)) (b .promise) (note S (b .id)) (leaves N S (b .id)) (f .0) (f .1))

@@ -6,14 +6,16 @@ use mathlib.Core.Bool.{Bool, true}
 use Prim.Native.Nat.{ℕ, _<_}
 use native.Mathlib.Omega.{arith}
 use lib.ListN.{length, length-map}
-use Rattle.lists.specs.All.{All, all-map, all-of, any}
-use Rattle.lists.specs.Filter.{filter, filter-some, length-filter, length-filterMap, all-filterMap}
-use Rattle.lists.specs.Sorted.{rises-filter}
+use Rattle.lists.specs.All.{All, any}
+use Rattle.lists.proofs.All.{all-map, all-of}
+use Rattle.lists.specs.Filter.{filter}
+use Rattle.lists.proofs.Filter.{filter-some, length-filter, length-filterMap, all-filterMap}
+use Rattle.lists.proofs.Sorted.{rises-filter}
 use Rattle.networks.specs.Network.{Input, Box, Wire, Network, ids, wireKey, boxId, ownBoxes, inputs}
 use Rattle.networks.specs.Sound.{Bounds, Sound, NoMore, sends}
 use Rattle.networks.specs.Sheets.{Sheet, number, note}
-use Rattle.networks.specs.Answer.{Entered}
-use Rattle.networks.specs.Cut.{only, promising, piece, fragmentOf, fragment, numbered}
+use Rattle.networks.specs.Lowest.{Entered}
+use Rattle.networks.specs.Cut.{only, promisingOwn, piece, fragmentOf, fragment, numbered}
 use Rattle.networks.proofs.Laws.Pieces.{piece-id, own-boxes-fragment, inputs-kept, sends-fragment}
 use Rattle.networks.proofs.Laws.Formed.{sound-formed, fragment-formed}
 
@@ -27,7 +29,7 @@ module _ {R P D : Type 0} (N : Network R P D) (S : Sheet R) where
   }
 
   some-kept : (k : ℕ) → any (numbered N S k) (ownBoxes N) ≡ true → 0 < length (ownBoxes (fragment N S k))
-  some-kept k t = rw (own-boxes-fragment N S (only k), length-map (filter (numbered N S k) (ownBoxes N)) (promising N S))
+  some-kept k t = rw (own-boxes-fragment N S (only k), length-map (filter (numbered N S k) (ownBoxes N)) (promisingOwn N S))
       (filter-some (numbered N S k) (ownBoxes N) t)
 
   -- an input is kept because it feeds the fragment

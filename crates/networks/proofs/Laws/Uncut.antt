@@ -8,10 +8,12 @@ use mathlib.Core.List.{filterMap}
 use Prim.Native.Nat.{ℕ}
 use lib.Dec.{eqb}
 use borrow.Author.Tests.{eq-eqb}
-use Rattle.lists.specs.Test.{and-i}
-use Rattle.lists.specs.All.{All, all-map, all-both, any-mono, false-any}
-use Rattle.lists.specs.Filter.{filter, filter-all, filterMap-self, filterMap-all}
-use Rattle.networks.specs.Network.{Own, Input, Box, own, input, Wire, Network, asOwn, asInput, isOwn, ownBoxes, inputs, owns}
+use Rattle.lists.proofs.Test.{and-i}
+use Rattle.lists.specs.All.{All}
+use Rattle.lists.proofs.All.{all-map, all-both, any-mono, false-any}
+use Rattle.lists.specs.Filter.{filter}
+use Rattle.lists.proofs.Filter.{filter-all, filterMap-self, filterMap-all}
+use Rattle.networks.specs.Network.{Own, Input, Box, own, input, Wire, Network, asOwn, asInput, isOwnBox, ownBoxes, inputs, owns}
 use Rattle.networks.specs.Sound.{Bounds, Sound}
 use Rattle.networks.specs.Sheets.{Sheet, number, note}
 use Rattle.networks.specs.Cut.{only, promised, leaves, feeds, piece, fragmentOf, fragment}
@@ -24,7 +26,7 @@ module _ {R P D : Type 0} (B : Bounds) (N : Network R P D) (S : Sheet R) (k : �
   numbered-k i = own-fact N (λ (j : ℕ). number S j ≡ k) i one
 
   pub none-leaves : All (λ (b : Own R D). leaves N S (b .id) ≡ false) (ownBoxes N)
-  none-leaves = all-map (ownBoxes N) (λ b e. at (b .id) (ap isOwn e)) (own-there N (sound .boxes-rise))
+  none-leaves = all-map (ownBoxes N) (λ b e. at (b .id) (ap isOwnBox e)) (own-there N (sound .boxes-rise))
     where
       at : (i : ℕ) → owns N i ≡ true → leaves N S i ≡ false
       at i t = leaves-own N S (sound-formed B N sound) i t ∙ false-any _ (N .wires)

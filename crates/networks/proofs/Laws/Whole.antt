@@ -6,16 +6,18 @@ use mathlib.Core.Path.{_≡_, refl, sym, ap, _∙_}
 use mathlib.Core.Bool.{Bool, true, false}
 use mathlib.Core.Option.{some}
 use Prim.Native.Nat.{ℕ}
-use Rattle.lists.specs.All.{All, all-map, all-both, any}
+use Rattle.lists.specs.All.{All, any}
+use Rattle.lists.proofs.All.{all-map, all-both}
 use Rattle.networks.specs.Algebra.{Algebra}
 use Rattle.networks.specs.Network.{Own, NetworkOver, ownBoxes}
 use Rattle.networks.specs.Sound.{Bounds, Sound}
 use Rattle.networks.specs.Sheets.{Sheet, RouteList, note, listed}
-use Rattle.networks.specs.Answer.{given, isSome, Entered}
+use Rattle.lists.specs.Answer.{given, isSome}
+use Rattle.networks.specs.Lowest.{Entered}
 use Rattle.networks.specs.Solution.{mapping, Solution, Demands}
 use Rattle.networks.specs.Judge.{held, Passes}
 use Rattle.networks.specs.Cut.{only, promised, leaves, fragment, numbered, Agrees, cut, Cuts}
-use Rattle.networks.proofs.Laws.Answers.{isSome-true}
+use Rattle.lists.proofs.Answer.{isSome-true}
 use Rattle.networks.proofs.Laws.Formed.{Formed, sound-formed, fragment-formed}
 use Rattle.networks.proofs.Laws.Cutting.{Fits, cut-answer, cuts-fits}
 use Rattle.networks.proofs.Laws.Solutions.{everywhere, anywhere, promised-note, solution-ext, whole-solved, fragment-solved}

@@ -3,7 +3,7 @@ use mathlib.Core.Path.{_≡_}
 use mathlib.Core.Logic.{_↔_, _⊎_, inl, inr, ⊎-elim}
 use Prim.Native.Nat.{_<_, _≤_}
 use native.Mathlib.Omega.{arith}
-use Rattle.lists.specs.Test.{le-or-lt}
+use Rattle.lists.proofs.Test.{le-or-lt}
 use Rattle.networks.specs.Network.{Wire, ids, wireKey}
 
 pub wire-order : (w v : Wire) → w .from < ids → v .from < ids → (wireKey w < wireKey v) ↔ ((w .to < v .to) ⊎ ((w .to ≡ v .to) × (w .from < v .from)))

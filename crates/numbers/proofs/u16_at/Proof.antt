@@ -4,23 +4,23 @@ use Rattle.numbers.specs.BigEndian.{u16At}
 use Rattle.numbers.proofs.u16_at.Statement.{statement}
 use Rattle.numbers.proofs.u16_at.Tie as tie
 
-shared-slice-read-wide : tie.Need-shared-slice-read-wide
-shared-slice-read-wide c = search needs
+shared-slice-read-low-byte : tie.Need-shared-slice-read-low-byte
+shared-slice-read-low-byte c = search needs
 
-wide-requires : tie.Need-wide-requires
-wide-requires c κs = search needs
+low-byte-requires : tie.Need-low-byte-requires
+low-byte-requires c κs = search needs
 
 mul-result : tie.Need-mul-result
 mul-result c = search needs
 
-add-wide : tie.Need-add-wide
-add-wide c = search needs
+add-low-byte : tie.Need-add-low-byte
+add-low-byte c = search needs
 
-shared-slice-read-wide-2 : tie.Need-shared-slice-read-wide-2
-shared-slice-read-wide-2 c = search needs
+shared-slice-read-low-byte-2 : tie.Need-shared-slice-read-low-byte-2
+shared-slice-read-low-byte-2 c = search needs
 
-wide-requires-2 : tie.Need-wide-requires-2
-wide-requires-2 c κs = search needs
+low-byte-requires-2 : tie.Need-low-byte-requires-2
+low-byte-requires-2 c κs = search needs
 
 add-result : tie.Need-add-result
 add-result c = search needs
@@ -33,11 +33,11 @@ pub u16-at-spec : {M : Type 1} → statement M
 u16-at-spec =
     tie.close
     (tie.spec
-    shared-slice-read-wide
-    wide-requires
+    shared-slice-read-low-byte
+    low-byte-requires
     mul-result
-    add-wide
-    shared-slice-read-wide-2
-    wide-requires-2
+    add-low-byte
+    shared-slice-read-low-byte-2
+    low-byte-requires-2
     add-result
     returns)

@@ -1,6 +1,6 @@
 -- One law for each refusal of the two records; where neither is refused, the answer is that of what they say (records-cut).
-use Rattle.cutting.proofs.CheckLaws.{checking, network-checked, sheet-checked}
-use Rattle.records.specs.RowLaws.{rows-fine}
+use Rattle.cutting.proofs.CheckLaws.{checking, sheet-checked}
+use Rattle.records.proofs.Checked.{rows-checked}
 use borrow.Author.Needs.{needs}
 use Rattle.cutting.proofs.entry.cut.Statement.{statement}
 use Rattle.cutting.proofs.entry.cut.Tie as tie
@@ -11,11 +11,8 @@ check-network-rows-requires c κs = search needs
 enum-known-r : tie.Need-enum-known-r
 enum-known-r c = search needs
 
-returns : tie.Need-returns
-returns c = (search checking, search checking)
-
-enum-told : tie.Need-enum-told
-enum-told c = search needs
+enum-known-form : tie.Need-enum-known-form
+enum-known-form c = search needs
 
 check-sheet-requires : tie.Need-check-sheet-requires
 check-sheet-requires c κs = search needs
@@ -23,18 +20,20 @@ check-sheet-requires c κs = search needs
 enum-known-r-2 : tie.Need-enum-known-r-2
 enum-known-r-2 c = search needs
 
-enum-told-2 : tie.Need-enum-told-2
-enum-told-2 c = search needs
+enum-told : tie.Need-enum-told
+enum-told c = search needs
 
 cut-checked-requires : tie.Need-cut-checked-requires
 cut-checked-requires c κs =
     let s = c .before .before .before .before .check-sheet in
-    let n = c .before .before .before .before .before .before .before .check-network-rows in
-    let slices = c .before .before .before .before .before .before .before .before .before .before in (
-      network-checked _ (n .result) (n .ensures .0) (search needs) (λ i. slices .before .shared-slice-known .given i .fits),
-      sheet-checked _ (s .result) (s .ensures) (search needs) (λ i. slices .shared-slice-known2 .given i .fits),
-      search rows-fine,
+    let n = c .before .before .before .before .before .before .before .before .check-network-rows in
+    let slices = c .before .before .before .before .before .before .before .before .before .before .before in (
+      rows-checked (n .result) _ (search needs) _ (n .ensures .0) (λ i. slices .before .shared-slice-known .given i .fits) _ _ (n .ensures .1),
+      search (needs, sheet-checked _ _ (n .result) (n .ensures .0) (s .result) (s .ensures) (λ i. slices .shared-slice-known2 .given i .fits)),
     )
+
+returns : tie.Need-returns
+returns c = (search checking, search checking)
 
 returns-2 : tie.Need-returns-2
 returns-2 c = (search checking, search checking)
@@ -51,12 +50,12 @@ cut-spec =
     (tie.spec
     check-network-rows-requires
     enum-known-r
-    returns
-    enum-told
+    enum-known-form
     check-sheet-requires
     enum-known-r-2
-    enum-told-2
+    enum-told
     cut-checked-requires
+    returns
     returns-2
     same-length
     returns-3)

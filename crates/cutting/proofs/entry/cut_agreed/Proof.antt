@@ -11,8 +11,8 @@ u16-at-requires c κs = search needs
 cast-n : tie.Need-cast-n
 cast-n c = search needs
 
-sort-rows-requires : tie.Need-sort-rows-requires
-sort-rows-requires c κs = search needs
+classify-rows-requires : tie.Need-classify-rows-requires
+classify-rows-requires c κs = search needs
 
 lay-requires : tie.Need-lay-requires
 lay-requires c κs = ((search tables-whole, search needs), (search tables-whole, search needs))
@@ -35,7 +35,7 @@ cut-agreed-spec =
     (tie.spec
     u16-at-requires
     cast-n
-    sort-rows-requires
+    classify-rows-requires
     lay-requires
     same-length
     returns

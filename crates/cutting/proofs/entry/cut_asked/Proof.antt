@@ -1,6 +1,6 @@
 -- The marks of all edges say which boxes cut wires leave (leaving). The first clash is 19; where there is none, the answer is the fragment's.
 use Rattle.cutting.proofs.AnswerLaws.{cutting-19}
-use Rattle.cutting.proofs.CheckLaws.{tables-start, tables-whole}
+use Rattle.cutting.proofs.CheckLaws.{tables-whole}
 use borrow.Author.Needs.{needs}
 use Rattle.cutting.proofs.entry.cut_asked.Statement.{statement}
 use Rattle.cutting.proofs.entry.cut_asked.Tie as tie
@@ -18,13 +18,13 @@ cast-m : tie.Need-cast-m
 cast-m c = search needs
 
 mark-wires-requires : tie.Need-mark-wires-requires
-mark-wires-requires c κs = (search needs, (search tables-start, search tables-start))
+mark-wires-requires c κs = search needs
 
 first-clash-requires : tie.Need-first-clash-requires
 first-clash-requires c κs = (search needs, (search needs, search needs, search tables-whole))
 
-node-id-requires : tie.Need-node-id-requires
-node-id-requires c κs = search needs
+refused-at-requires : tie.Need-refused-at-requires
+refused-at-requires c κs = search needs
 
 returns : tie.Need-returns
 returns c = (search cutting-19, search cutting-19)
@@ -48,7 +48,7 @@ cut-asked-spec =
     cast-m
     mark-wires-requires
     first-clash-requires
-    node-id-requires
+    refused-at-requires
     returns
     cut-agreed-requires
     same-length

@@ -10,8 +10,11 @@ u16-at-requires c κs = search needs
 cast-n : tie.Need-cast-n
 cast-n c = search needs
 
-first-of-requires : tie.Need-first-of-requires
-first-of-requires c κs = search needs
+first-inside-requires : tie.Need-first-inside-requires
+first-inside-requires c κs = search needs
+
+wide-requires : tie.Need-wide-requires
+wide-requires c κs = search needs
 
 returns : tie.Need-returns
 returns c = (search cutting-18, search cutting-18)
@@ -31,7 +34,8 @@ cut-entered-spec =
     (tie.spec
     u16-at-requires
     cast-n
-    first-of-requires
+    first-inside-requires
+    wide-requires
     returns
     cut-asked-requires
     same-length

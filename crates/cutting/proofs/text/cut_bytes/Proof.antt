@@ -5,8 +5,11 @@ use borrow.Author.Needs.{needs}
 use Rattle.cutting.proofs.text.cut_bytes.Statement.{statement}
 use Rattle.cutting.proofs.text.cut_bytes.Tie as tie
 
-put-refused-requires : tie.Need-put-refused-requires
-put-refused-requires c κs = search needs
+longest-input-requires : tie.Need-longest-input-requires
+longest-input-requires c κs = search needs
+
+place-line-requires : tie.Need-place-line-requires
+place-line-requires c κs = search needs
 
 same-length : tie.Need-same-length
 same-length c = search needs
@@ -72,7 +75,8 @@ pub cut-bytes-spec : {M : Type 1} → statement M
 cut-bytes-spec =
     tie.close
     (tie.spec
-    put-refused-requires
+    longest-input-requires
+    place-line-requires
     same-length
     returns
     first-length-requires

@@ -16,35 +16,29 @@ enum-known-refusal c = search needs
 number-of-requires : tie.Need-number-of-requires
 number-of-requires c κs = search needs
 
-place-of-requires : tie.Need-place-of-requires
-place-of-requires c κs = search needs
-
 wide-requires : tie.Need-wide-requires
 wide-requires c κs = search needs
 
-place-of-requires-2 : tie.Need-place-of-requires-2
-place-of-requires-2 c κs = search needs
-
-put-refused-requires : tie.Need-put-refused-requires
-put-refused-requires c κs = search needs
+place-line-requires : tie.Need-place-line-requires
+place-line-requires c κs = search needs
 
 same-length : tie.Need-same-length
 same-length c = search needs
 
 returns : tie.Need-returns
-returns c = (search (fragment-outputs), search (fragment-outputs))
+returns c = (search fragment-outputs, search fragment-outputs)
 
 same-length-2 : tie.Need-same-length-2
 same-length-2 c = search needs
 
 returns-2 : tie.Need-returns-2
-returns-2 c = (search (fragment-outputs), search (fragment-outputs))
+returns-2 c = (search fragment-outputs, search fragment-outputs)
 
 same-length-3 : tie.Need-same-length-3
 same-length-3 c = search needs
 
 returns-3 : tie.Need-returns-3
-returns-3 c = (search (fragment-outputs), search (fragment-outputs))
+returns-3 c = (search fragment-outputs, search fragment-outputs)
 
 pub put-fragment-spec : {M : Type 1} → statement M
 put-fragment-spec =
@@ -54,10 +48,8 @@ put-fragment-spec =
     enum-known-length
     enum-known-refusal
     number-of-requires
-    place-of-requires
     wide-requires
-    place-of-requires-2
-    put-refused-requires
+    place-line-requires
     same-length
     returns
     same-length-2

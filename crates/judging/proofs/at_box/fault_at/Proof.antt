@@ -1,62 +1,20 @@
--- One law for each test, in the order of the findings.
-use Rattle.judging.proofs.BoxLaws.{faults}
+-- The part that the lookup hands back says the route that the list has for the box (held-fault).
+use Rattle.judging.proofs.BoxLaws.{held-faults}
 use borrow.Author.Needs.{needs}
 use Rattle.judging.proofs.at_box.fault_at.Statement.{statement}
 use Rattle.judging.proofs.at_box.fault_at.Tie as tie
 
-same-requires : tie.Need-same-requires
-same-requires c κs = search (needs, faults)
-
-returns : tie.Need-returns
-returns c = search faults
-
-node-offset-requires : tie.Need-node-offset-requires
-node-offset-requires c κs = search (needs, faults)
-
-promising-at-requires : tie.Need-promising-at-requires
-promising-at-requires c κs = search (needs, faults)
-
-unmet-requires : tie.Need-unmet-requires
-unmet-requires c κs = search faults
-
-returns-2 : tie.Need-returns-2
-returns-2 c = search faults
-
-add-route-at : tie.Need-add-route-at
-add-route-at c = search (needs, faults)
-
-add-route-at-2 : tie.Need-add-route-at-2
-add-route-at-2 c = search (needs, faults)
+row-part-requires : tie.Need-row-part-requires
+row-part-requires c κs = search (needs, held-faults)
 
 route-at-requires : tie.Need-route-at-requires
-route-at-requires c κs = search (needs, faults)
+route-at-requires c κs = search (needs, held-faults)
 
-same-requires-2 : tie.Need-same-requires-2
-same-requires-2 c κs = search needs
+fault-of-requires : tie.Need-fault-of-requires
+fault-of-requires c κs = search (needs, held-faults)
 
-returns-3 : tie.Need-returns-3
-returns-3 c = search faults
-
-unmet-requires-2 : tie.Need-unmet-requires-2
-unmet-requires-2 c κs = search faults
-
-returns-4 : tie.Need-returns-4
-returns-4 c = search faults
+returns : tie.Need-returns
+returns c = search (needs, held-faults)
 
 pub fault-at-spec : {M : Type 1} → statement M
-fault-at-spec =
-    tie.close
-    (tie.spec
-    same-requires
-    returns
-    node-offset-requires
-    promising-at-requires
-    unmet-requires
-    returns-2
-    add-route-at
-    add-route-at-2
-    route-at-requires
-    same-requires-2
-    returns-3
-    unmet-requires-2
-    returns-4)
+fault-at-spec = tie.close (tie.spec row-part-requires route-at-requires fault-of-requires returns)

@@ -1,19 +1,25 @@
 -- As lay_nodes, with the offset of the edge at hand.
-use Rattle.laying.proofs.LayLaws.{edge-fits, laying, offsets}
-use Rattle.lists.specs.Gather.{Laying}
-use Rattle.records.specs.Layout.{edgeOffset}
-use mathlib.Core.Path.{_≡_}
+use Rattle.laying.proofs.RowLaws.{offsets, edge-fits}
+use Rattle.writing.proofs.RunLaws.{Laying, laying}
 use Rattle.laying.specs.Pieces.{edgeBytes}
+use Rattle.layout.specs.Layout.{edgeCount, edgeOffset}
+use mathlib.Core.Path.{_≡_}
 use Prim.Native.Nat.{_-_}
 use borrow.Author.Needs.{needs}
 use Rattle.laying.proofs.parts.lay_edges.Statement.{statement}
 use Rattle.laying.proofs.parts.lay_edges.Tie as tie
 
 abbrev Inv-loop : tie.InvT-loop
-Inv-loop form network rows numbers k n out₀ o₀ j₀ at₀ out o j at = (at ≡ edgeOffset form network j) × Laying (edgeBytes form network numbers k) n out₀ out j o
+Inv-loop form network rows fragments k out₀ n o₀ j₀ at₀ out o j at = (at ≡ edgeOffset form network j) × Laying (edgeBytes form network fragments k) (edgeCount network) out₀ out j o
 
 abbrev μ-loop : tie.MeasureT-loop
-μ-loop form network rows numbers k n out₀ o₀ j₀ at₀ out o j at = n - j
+μ-loop form network rows fragments k out₀ n o₀ j₀ at₀ out o j at = n - j
+
+u16-at-requires : tie.Need-u16-at-requires Inv-loop μ-loop
+u16-at-requires c κs = search (needs, laying, offsets)
+
+cast-n : tie.Need-cast-n Inv-loop μ-loop
+cast-n c = search needs
 
 edge-offset-requires : tie.Need-edge-offset-requires Inv-loop μ-loop
 edge-offset-requires c κs = search (needs, laying, offsets)
@@ -21,17 +27,17 @@ edge-offset-requires c κs = search (needs, laying, offsets)
 loop-holds : tie.Need-loop-holds Inv-loop μ-loop
 loop-holds c = (search needs, search laying)
 
-sub-put-edge : tie.Need-sub-put-edge Inv-loop μ-loop
-sub-put-edge c = search (needs, laying, offsets)
+sub-lay-edge : tie.Need-sub-lay-edge Inv-loop μ-loop
+sub-lay-edge c = search (needs, laying, offsets)
 
-part-put-edge-start : tie.Need-part-put-edge-start Inv-loop μ-loop
-part-put-edge-start c = search (needs, laying, offsets)
+part-lay-edge-start : tie.Need-part-lay-edge-start Inv-loop μ-loop
+part-lay-edge-start c = search (needs, laying, offsets)
 
-part-put-edge-end : tie.Need-part-put-edge-end Inv-loop μ-loop
-part-put-edge-end c = search (needs, laying, offsets)
+part-lay-edge-end : tie.Need-part-lay-edge-end Inv-loop μ-loop
+part-lay-edge-end c = search (needs, laying, offsets)
 
-put-edge-requires : tie.Need-put-edge-requires Inv-loop μ-loop
-put-edge-requires c κs = (search needs, (search needs, search needs, search edge-fits))
+lay-edge-requires : tie.Need-lay-edge-requires Inv-loop μ-loop
+lay-edge-requires c κs = (search needs, (search needs, search needs, search edge-fits))
 
 add-o : tie.Need-add-o Inv-loop μ-loop
 add-o c = search (needs, laying, offsets)
@@ -60,12 +66,14 @@ lay-edges-spec =
     (tie.spec
     Inv-loop
     μ-loop
+    u16-at-requires
+    cast-n
     edge-offset-requires
     loop-holds
-    sub-put-edge
-    part-put-edge-start
-    part-put-edge-end
-    put-edge-requires
+    sub-lay-edge
+    part-lay-edge-start
+    part-lay-edge-end
+    lay-edge-requires
     add-o
     add-at
     add-j

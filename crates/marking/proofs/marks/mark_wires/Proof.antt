@@ -6,10 +6,10 @@ use Rattle.marking.proofs.marks.mark_wires.Statement.{statement}
 use Rattle.marking.proofs.marks.mark_wires.Tie as tie
 
 abbrev Inv-loop : tie.InvT-loop
-Inv-loop form network rows numbers k n leaves₀ feeds₀ kept₀ j₀ at₀ leaves feeds kept j at = Marking form network numbers k n j at kept leaves feeds
+Inv-loop form network rows fragments k n leaves₀ feeds₀ kept₀ j₀ at₀ leaves feeds kept j at = Marking form network fragments k n j at kept leaves₀ feeds₀ leaves feeds
 
 abbrev μ-loop : tie.MeasureT-loop
-μ-loop form network rows numbers k n leaves₀ feeds₀ kept₀ j₀ at₀ leaves feeds kept j at = n - j
+μ-loop form network rows fragments k n leaves₀ feeds₀ kept₀ j₀ at₀ leaves feeds kept j at = n - j
 
 edge-offset-requires : tie.Need-edge-offset-requires Inv-loop μ-loop
 edge-offset-requires c κs = search (needs, markings)

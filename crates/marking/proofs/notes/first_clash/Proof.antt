@@ -1,5 +1,5 @@
 -- Before the i-th turn no row before it breaks a promise (Seek).
-use Rattle.lists.specs.Walk.{Seek, seeking}
+use Rattle.lists.proofs.Walk.{Seek, seeking}
 use Prim.Native.Nat.{_-_}
 use Rattle.marking.specs.Tables.{unclashed}
 use borrow.Author.Needs.{needs}
@@ -7,16 +7,16 @@ use Rattle.marking.proofs.notes.first_clash.Statement.{statement}
 use Rattle.marking.proofs.notes.first_clash.Tie as tie
 
 abbrev Inv-loop : tie.InvT-loop
-Inv-loop form network sheet entries leaves n i₀ i = Seek (unclashed form network sheet) n i
+Inv-loop form network sheet found leaves n i₀ i = Seek (unclashed form network sheet) n i
 
 abbrev μ-loop : tie.MeasureT-loop
-μ-loop form network sheet entries leaves n i₀ i = n - i
+μ-loop form network sheet found leaves n i₀ i = n - i
 
 loop-holds : tie.Need-loop-holds Inv-loop μ-loop
 loop-holds c = search (needs, seeking)
 
 keeps-promise-requires : tie.Need-keeps-promise-requires Inv-loop μ-loop
-keeps-promise-requires c κs = search (needs, seeking)
+keeps-promise-requires c κs = ((search needs, search needs), (search needs, search needs, search needs))
 
 returns : tie.Need-returns Inv-loop μ-loop
 returns c = search (needs, seeking)

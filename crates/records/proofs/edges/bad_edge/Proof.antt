@@ -1,14 +1,12 @@
 -- Before the j-th turn every edge before it is well formed, and the rows that they leave are marked (Edging).
-use Rattle.records.proofs.LeftLaws.{key-none}
-use Rattle.records.proofs.LeftLaws.{edging-bad, edging-bad-marks}
-use Rattle.records.proofs.LeftLaws.{Edging, edging, edging-start, edging-fits}
+use Rattle.records.proofs.LeftLaws.{key-none, edging-bad, edging-bad-marks, Edging, edging, edging-start, edging-fits}
 use Prim.Native.Nat.{_-_}
 use borrow.Author.Needs.{needs}
 use Rattle.records.proofs.edges.bad_edge.Statement.{statement}
 use Rattle.records.proofs.edges.bad_edge.Tie as tie
 
 abbrev Inv-loop : tie.InvT-loop
-Inv-loop form b rows left₀ n j₀ o₀ low₀ left j o low = Edging form b n j o low left
+Inv-loop form b rows left₀ n j₀ o₀ low₀ left j o low = Edging form b n j o low left₀ left
 
 abbrev μ-loop : tie.MeasureT-loop
 μ-loop form b rows left₀ n j₀ o₀ low₀ left j o low = n - j

@@ -4,35 +4,25 @@ use borrow.Author.Needs.{needs}
 use Rattle.records.proofs.edges.is_owned.Statement.{statement}
 use Rattle.records.proofs.edges.is_owned.Tie as tie
 
-mul-wide16 : tie.Need-mul-wide16
-mul-wide16 c = search needs
+mul-if1 : tie.Need-mul-if1
+mul-if1 c = search (needs, owned-ids)
 
-element-copy-out-wide16 : tie.Need-element-copy-out-wide16
-element-copy-out-wide16 c = search needs
-
-wide16-requires : tie.Need-wide16-requires
-wide16-requires c κs = search needs
+element-copy-out-if1 : tie.Need-element-copy-out-if1
+element-copy-out-if1 c = search (needs, owned-ids)
 
 returns : tie.Need-returns
-returns c = search owned-ids
+returns c = search (needs, owned-ids)
 
-sub-is-own : tie.Need-sub-is-own
-sub-is-own c = search needs
+row-in-requires : tie.Need-row-in-requires
+row-in-requires c κs = search (needs, owned-ids)
 
 is-own-requires : tie.Need-is-own-requires
 is-own-requires c κs = search (needs, owned-ids)
 
 returns-2 : tie.Need-returns-2
-returns-2 c = search owned-ids
+returns-2 c = search (needs, owned-ids)
 
 pub is-owned-spec : {M : Type 1} → statement M
 is-owned-spec =
     tie.close
-    (tie.spec
-    mul-wide16
-    element-copy-out-wide16
-    wide16-requires
-    returns
-    sub-is-own
-    is-own-requires
-    returns-2)
+    (tie.spec mul-if1 element-copy-out-if1 returns row-in-requires is-own-requires returns-2)

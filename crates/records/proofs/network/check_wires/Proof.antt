@@ -1,5 +1,6 @@
--- One law for each of 9 and 10, and one for none; the marks that 10 looks at were set for 9.
-use Rattle.records.proofs.NetworkRefusals.{wires, marks-start, marks-end}
+-- One law for the row 9, and one for the row below; the marks that 10 looks at were set for 9.
+use Rattle.records.proofs.NetworkRefusals.{wires}
+use Rattle.records.proofs.LeftLaws.{left-marked}
 use borrow.Author.Needs.{needs}
 use Rattle.records.proofs.network.check_wires.Statement.{statement}
 use Rattle.records.proofs.network.check_wires.Tie as tie
@@ -11,31 +12,19 @@ cast-edges : tie.Need-cast-edges
 cast-edges c = search needs
 
 bad-edge-requires : tie.Need-bad-edge-requires
-bad-edge-requires c κs = ((search needs, search needs, search needs), (search needs, search marks-start))
+bad-edge-requires c κs = search needs
 
 edge-offset-requires : tie.Need-edge-offset-requires
-edge-offset-requires c κs = search needs
+edge-offset-requires c κs = search (needs, wires)
 
 returns : tie.Need-returns
-returns c = search wires
+returns c = search (needs, wires)
 
-u16-at-requires-2 : tie.Need-u16-at-requires-2
-u16-at-requires-2 c κs = search needs
-
-cast-nodes : tie.Need-cast-nodes
-cast-nodes c = search needs
-
-bad-input-requires : tie.Need-bad-input-requires
-bad-input-requires c κs = (search needs, search needs, search marks-end)
-
-node-offset-requires : tie.Need-node-offset-requires
-node-offset-requires c κs = search needs
+check-inputs-requires : tie.Need-check-inputs-requires
+check-inputs-requires c κs = (search needs, search left-marked)
 
 returns-2 : tie.Need-returns-2
-returns-2 c = search wires
-
-returns-3 : tie.Need-returns-3
-returns-3 c = search wires
+returns-2 c = search (needs, wires)
 
 pub check-wires-spec : {M : Type 1} → statement M
 check-wires-spec =
@@ -46,9 +35,5 @@ check-wires-spec =
     bad-edge-requires
     edge-offset-requires
     returns
-    u16-at-requires-2
-    cast-nodes
-    bad-input-requires
-    node-offset-requires
-    returns-2
-    returns-3)
+    check-inputs-requires
+    returns-2)

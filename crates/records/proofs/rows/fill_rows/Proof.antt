@@ -1,5 +1,5 @@
 -- Before a turn the rows from i on are entered, and of two with one id the first stays (Filling).
-use Rattle.records.proofs.RowLaws.{Filling, filling}
+use Rattle.records.proofs.FillLaws.{Filling, filling}
 use borrow.Author.Needs.{needs}
 use Rattle.records.proofs.rows.fill_rows.Statement.{statement}
 use Rattle.records.proofs.rows.fill_rows.Tie as tie

@@ -1,0 +1,26 @@
+-- The house's routes as a routing algebra, over the highest cost that a wire may give.
+use Prim.Native.Nat.{ℕ}
+use Rattle.lists.specs.Best.{best}
+use Rattle.routes.specs.declared.Demand.{Demand}
+use Rattle.routes.specs.declared.Policy.{Policy}
+use Rattle.routes.specs.declared.Route.{Route}
+use Rattle.routes.specs.declared.Route.the-variants.{None}
+use Rattle.routes.specs.Order.{beats, same}
+use Rattle.routes.specs.Carry.{carried}
+use Rattle.routes.specs.Demand.{meets}
+use Rattle.routes.proofs.Ordered.{same-true, same-refl}
+use Rattle.networks.specs.Algebra.{Algebra}
+
+abbrev pub house : ℕ → Algebra
+house top = record {
+  Route = Route;
+  Policy = Policy;
+  Demand = Demand;
+  noRoute = None;
+  same = same;
+  best = best beats;
+  carry = carried top;
+  meets = meets;
+  same-true = same-true;
+  same-self = same-refl;
+}
