@@ -1,11 +1,11 @@
 -- Which bytes are kept of a row, as the code finds it.
---     noting, keeping       the node in a row, by its part
+--     keeping               the node in a row, by its part
 --     reaching, offsets     an edge, by its to end; its offset in the loop
 use Prim.Native.Nat.{ℕ, _+_, _-_, _^_, _≤_, _<_}
 use native.Mathlib.Omega.{arith}
 use mathlib.Core.Bool.{true}
 use mathlib.Core.List.{List, []}
-use mathlib.Core.Path.{_≡_, refl, ap, _∙_}
+use mathlib.Core.Path.{_≡_, refl, ap}
 use lib.Dec.{eqb, leb}
 use lib.ListN.{length, getD, take, drop}
 use mir.Syntax.{w64}
@@ -15,14 +15,15 @@ use Rattle.lists.specs.Gather.{joined}
 use Rattle.lists.proofs.Test.{and-r}
 use Rattle.lists.specs.Rising.{least}
 use Rattle.numbers.specs.BigEndian.{u16At}
-use Rattle.routes.specs.Form.{routeAt}
+use Rattle.routes.specs.Form.{routeAt, routeFormed}
 use Rattle.routes.specs.declared.Demand.{Demand}
 use Rattle.routes.specs.declared.Route.{Route}
 use Rattle.networks.specs.Network.{Box, input}
-use Rattle.layout.specs.Form.{nodeWidth}
-use Rattle.layout.specs.Layout.{nodeCount, edgeCount, nodeOffset, edgeOffset}
+use Rattle.layout.specs.Form.{nodeWidth, sheetLead}
+use Rattle.layout.specs.Layout.{nodeCount, edgeCount, nodeOffset, edgeOffset, entryOffset}
+use Rattle.entries.specs.Entries.{entryId, fragmentFormed, entryFormed, entryOk}
 use Rattle.nodes.specs.Node.{nodeId, nodeFormed, nodeOk, isOwn, rowOf}
-use Rattle.layout.proofs.Places.{node-room, edge-room, edge-after}
+use Rattle.layout.proofs.Places.{node-room, edge-room, edge-after, entry-room}
 use Rattle.layout.specs.declared.Form.{Form}
 use Rattle.reading.specs.Parts.{boxAt, boxBytes, wireAt, wireBytes}
 use Rattle.reading.proofs.Said.{box-id-at}
@@ -32,13 +33,9 @@ use Rattle.records.specs.Checked.{CheckedNetwork}
 use Rattle.marking.specs.Tables.{boxIn}
 use Rattle.marking.proofs.MarkLaws.{to-room, to-there, edge-reaches}
 use Rattle.marking.proofs.Said.{own-box}
-use Rattle.writing.specs.Rows.{promisedAt, NodeAt, OwnAt, EdgeAt}
+use Rattle.writing.specs.Rows.{promisedAt, NodeAt, OwnAt, RouteAt, EdgeAt}
 use Rattle.writing.proofs.RunLaws.{Laying, box-room, wire-room, lay-fits}
 use Rattle.laying.specs.Pieces.{nodeBytes, edgeBytes, NodeTables}
-
-pub note-is : (f : Form) (sheet entries : List ℕ) (i note : ℕ) (r : Route) → note ≡ noteOffset f entries i → r ≡ routeAt (f .route) sheet note → r ≡ noteIn f sheet entries i
-unfolding noteIn
-note-is f sheet entries i note r e q = q ∙ rw e
 
 module _ (f : Form) (network sheet entries pieces : List ℕ) (t : NodeTables f network sheet entries pieces) (i : ℕ) (l : i < nodeCount network) where
   abbrev w : ℕ
@@ -57,6 +54,19 @@ module _ (f : Form) (network sheet entries pieces : List ℕ) (t : NodeTables f 
   pub promised-ours : part ≡ 2 → isOwn f network i ≡ true
   promised-ours z = t .ours i l (omega arith)
 
+  -- the note of an own box is a route of the sheet
+  module _ (note : ℕ) (q : note ≡ noteOffset f entries i) where
+    pub note-at : isOwn f network i ≡ true → RouteAt f sheet note
+    unfolding noteOffset entryOk entryFormed
+    note-at own =
+        let entry = getD entries i 0 in
+        let o = entryOffset f sheetLead entry in
+        let l = t .noted .row i l own .there in
+        let h = entry-room f sheetLead sheet (t .formed .room) entry l in
+        let sound = and-r (leb (least (entryId f sheetLead sheet) entry) (entryId f sheetLead sheet entry)) (entryFormed f sheetLead sheet o) (t .formed .formed .entries entry l) in
+        let formed = and-r (fragmentFormed f sheetLead sheet o) (routeFormed w sheet (o + 3)) sound in
+        record { usable = t .checked .room .usable; bytes = t .formed .bytes; there = rw q (omega arith); formed = rw q formed }
+
   module _ (at : ℕ) (e : at ≡ nodeOffset f network i) where
     pub node-at : NodeAt f network at
     unfolding nodeOk
@@ -73,17 +83,17 @@ module _ (f : Form) (network sheet entries pieces : List ℕ) (t : NodeTables f 
       unfolding isOwn
       own-at = record { node = node-at; ours = rw e (eqb-true _ _ (promised-ours z)) }
 
-      pub as-promised : (r : Route) → r ≡ noteIn f sheet entries i → run ≡ boxBytes w (promisedAt w network at r)
-      unfolding nodeBytes pieceOf promisedAt nodeId
-      as-promised r q = rw (z, q, e) (ap (λ (v : Box Route Demand). boxBytes w (withPromise v (noteIn f sheet entries i))) (own-box f network i (promised-ours z)))
+      pub as-promised : (note : ℕ) → note ≡ noteOffset f entries i → run ≡ boxBytes w (promisedAt w network at (routeAt w sheet note))
+      unfolding nodeBytes pieceOf promisedAt nodeId noteIn
+      as-promised note q = rw (z, q, e) (ap (λ (v : Box Route Demand). boxBytes w (withPromise v (noteIn f sheet entries i))) (own-box f network i (promised-ours z)))
 
   module _ (x : part ≡ 0 → ⊥) (y : part ≡ 1 → ⊥) (z : part ≡ 2 → ⊥) where
     pub assumed-ours : isOwn f network i ≡ true
     assumed-ours = t .ours i l (omega arith)
 
-    pub as-assumed : (id : ℕ) (r : Route) → id ≡ nodeId f network i → r ≡ noteIn f sheet entries i → run ≡ boxBytes w (input (record { id = id; assumed = r }))
-    unfolding nodeBytes pieceOf boxIn nodeId
-    as-assumed id r e q =
+    pub as-assumed : (id note : ℕ) → id ≡ nodeId f network i → note ≡ noteOffset f entries i → run ≡ boxBytes w (input (record { id = id; assumed = routeAt w sheet note }))
+    unfolding nodeBytes pieceOf boxIn nodeId noteIn
+    as-assumed id note e q =
         rw (ne-eqb part 0 x, ne-eqb part 1 y, ne-eqb part 2 z, e, q)
         (ap (λ (n : ℕ). boxBytes w (input (record { id = n; assumed = noteIn f sheet entries i }))) (box-id-at w network (nodeOffset f network i)))
 
@@ -101,7 +111,7 @@ module _ (f : Form) (network sheet entries pieces : List ℕ) (t : NodeTables f 
     pub assumed-room : (part ≡ 0 → ⊥) → (part ≡ 1 → ⊥) → (part ≡ 2 → ⊥) → nodeWidth f ≤ length out
     assumed-room x y z = fits _ (as-assumed x y z _ _ refl refl)
 
-pub ruleset keeping = (as-none, promised-ours, node-at, as-whole, whole-room, own-at, as-promised, promised-room, assumed-ours, as-assumed, assumed-room)
+pub ruleset keeping = (as-none, promised-ours, note-at, node-at, as-whole, whole-room, own-at, as-promised, promised-room, assumed-ours, as-assumed, assumed-room)
 
 module _ (f : Form) (network fragments : List ℕ) (k : ℕ) (c : CheckedNetwork f network) (j at : ℕ) (l : j < edgeCount network) (e : at ≡ edgeOffset f network j) where
   pub edge-at : EdgeAt network at

@@ -1,14 +1,11 @@
 // What the fragment keeps of one node and of one edge, over the start of what remains of a lent buffer. Each writer answers how
 // many bytes that is.
 ghost use mathlib.Core.Path.{_≡_};
-ghost use mathlib.Core.Bool.{true};
 ghost use Prim.Native.Nat.{_≤_, _<_};
 ghost use lib.ListN.{length};
 ghost use Rattle.lists.specs.Laid.{over};
 ghost use Rattle.layout.specs.Layout.{nodeCount, edgeCount, edgeOffset};
-ghost use Rattle.nodes.specs.Node.{isOwn};
 ghost use Rattle.records.specs.Rows.{Filled};
-ghost use Rattle.marking.specs.Pieces.{noteIn};
 ghost use Rattle.records.specs.Checked.{CheckedNetwork};
 ghost use Rattle.laying.specs.Pieces.{nodeBytes, edgeBytes, NodeTables};
 use layout::Form;
@@ -18,29 +15,10 @@ use marking::note_offset;
 use nodes::node_id;
 use numbers::u16_at;
 use records::row_in;
-use routes::Route;
-use routes::route_at;
 use writing::put_edge;
 use writing::put_input;
 use writing::put_node;
 use writing::put_promised;
-
-// The note of the own node in row i.
-fn note_of(
-    form: Form,
-    network: &[u8],
-    sheet: &[u8],
-    entries: &[u16; ROWS],
-    pieces: &[u8; ROWS],
-    i: usize,
-) -> Route
-    requires { ⌜ NodeTables form (now network) (now sheet) (now entries) (now pieces) ⌝ }
-    requires { ⌜ (i < nodeCount (now network)) × (isOwn form (now network) i ≡ true) ⌝ }
-    ensures { λ r. ⌜ r ≡ noteIn form (now (sheet .entry)) (now (entries .entry)) i ⌝ }
-{
-    let note = note_offset(form, network, sheet, entries, i);
-    route_at(form.route, sheet, note)
-}
 
 // The node in row i, by its part.
 pub fn lay_node(
@@ -62,12 +40,12 @@ pub fn lay_node(
         0 => 0,
         1 => put_node(form, network, at, out),
         2 => {
-            let note = note_of(form, network, sheet, entries, pieces, i);
-            put_promised(form, network, at, note, out)
+            let note = note_offset(form, network, sheet, entries, i);
+            put_promised(form, network, at, sheet, note, out)
         }
         _ => {
-            let note = note_of(form, network, sheet, entries, pieces, i);
-            put_input(form, node_id(form, network, i), note, out)
+            let note = note_offset(form, network, sheet, entries, i);
+            put_input(form, node_id(form, network, i), sheet, note, out)
         }
     }
 }

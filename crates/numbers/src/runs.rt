@@ -5,19 +5,18 @@ ghost use lib.ListN.{length, take, drop, replicate};
 ghost use lib.Seq.{sets};
 ghost use Rattle.numbers.specs.Zeros.{zeros};
 
-// Whether the n bytes of b at an offset are zero.
+// Whether the n bytes of b at an offset are zero. All of them are looked at, so that a run of known length is a few wide loads.
 pub fn all_zero(b: &[u8], at: usize, n: usize) -> bool
     requires { ⌜ at + n ≤ length (now b) ⌝ }
     ensures { λ r. ⌜ r ≡ zeros (now (b .entry)) at n ⌝ }
 {
+    let mut seen: u8 = 0;
     let mut i = 0;
     while i < n {
-        if b[at + i] != 0 {
-            return false;
-        }
+        seen = seen | b[at + i];
         i += 1;
     }
-    true
+    seen == 0
 }
 
 // Stores n zero bytes of out at an offset. The other bytes keep their values.

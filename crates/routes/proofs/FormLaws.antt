@@ -1,22 +1,17 @@
--- Routes and policies as bytes, as the code reads and stores them.
---     routes            its readers' and writers' ways
---     policies          its readers' ways
-use mathlib.Core.Path.{_≡_, refl}
+-- Routes and policies as bytes, as the code reads them.
+--     forming, reading, fields-read     routes
+--     policies, policy-read             policies
+use mathlib.Core.Path.{_≡_}
 use mathlib.Core.Bool.{Bool, true, false}
-use mathlib.Core.List.{List, [], _∷_, _++_}
+use mathlib.Core.List.{List}
 use Prim.Native.Nat.{ℕ, _+_, _-_}
-use native.Mathlib.Omega.{arith}
 use lib.Dec.{eqb}
-use lib.ListN.{getD, replicate, set, length-replicate}
-use lib.Seq.{sets}
+use lib.ListN.{getD, set}
 use borrow.Author.Tests.{ne-eqb}
-use Rattle.lists.specs.Rows.{laidRows}
-use Rattle.lists.proofs.Laid.{stored-on}
-use Rattle.numbers.specs.BigEndian.{u16At, u16Bytes}
+use Rattle.numbers.specs.BigEndian.{u16At}
 use Rattle.numbers.specs.Zeros.{zeros}
-use Rattle.routes.specs.Form.{fieldsAt, fieldsBytes, routeAt, routeBytes, routeFormed, policyAt, policyFormed}
+use Rattle.routes.specs.Form.{fieldsAt, routeAt, routeFormed, policyAt, policyFormed}
 use Rattle.routes.specs.declared.Fields.{Fields}
-use Rattle.routes.specs.declared.Route.{Route}
 use Rattle.routes.specs.declared.Route.the-variants.{None, Held}
 
 -- routes
@@ -50,29 +45,6 @@ pub fields-read : (b : List ℕ) (o preference cost origin tags : ℕ)
     → record { preference = preference; cost = cost; origin = origin; tags = tags } ≡ fieldsAt b o
 unfolding fieldsAt
 fields-read b o _ _ _ _ e₁ e₂ e₃ e₄ = rw (e₁, e₂, e₃, e₄)
-
-module _ (out a b c d : List ℕ) (at n₁ n₂ n₃ n₄ : ℕ) where
-  pub four-put : a ≡ sets out at (u16Bytes n₁) → b ≡ sets a (at + 2) (u16Bytes n₂) → c ≡ sets b (at + 4) (u16Bytes n₃) → d ≡ sets c (at + 6) (u16Bytes n₄)
-      → d ≡ sets out at (laidRows u16Bytes (n₁ ∷ n₂ ∷ n₃ ∷ n₄ ∷ []))
-  unfolding u16Bytes
-  four-put e₁ e₂ e₃ e₄ =
-      stored-on out c d at (at + 6) (u16Bytes n₁ ++ (u16Bytes n₂ ++ u16Bytes n₃)) (u16Bytes n₄)
-      (stored-on out b c at (at + 4) (u16Bytes n₁ ++ u16Bytes n₂) (u16Bytes n₃)
-      (stored-on out a b at (at + 2) (u16Bytes n₁) (u16Bytes n₂) e₁ refl e₂) refl e₃) refl e₄
-
-module _ (w : ℕ) (out out′ : List ℕ) (at : ℕ) (r : Route) where
-  pub none-put : r ≡ None → out′ ≡ sets out at (replicate w 0) → out′ ≡ sets out at (routeBytes w r)
-  unfolding routeBytes
-  none-put e q = rw e q
-
-  pub held-put : (f : Fields) (a b : List ℕ) → r ≡ Held f → a ≡ sets out at (1 ∷ []) → b ≡ sets a (at + 1) (replicate (w - 9) 0)
-      → out′ ≡ sets b (at + 1 + (w - 9)) (laidRows u16Bytes (f .preference ∷ f .cost ∷ f .origin ∷ f .tags ∷ []))
-      → out′ ≡ sets out at (routeBytes w r)
-  unfolding routeBytes fieldsBytes
-  held-put f a b e p q s = rw e
-      (stored-on out b out′ at (at + 1 + (w - 9)) (1 ∷ replicate (w - 9) 0) _
-      (stored-on out a b at (at + 1) (1 ∷ []) (replicate (w - 9) 0) p refl q)
-      (omega (arith, length-replicate {A = ℕ} (w - 9) 0)) s)
 
 -- policies
 module _ (b : List ℕ) (o : ℕ) where

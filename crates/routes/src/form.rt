@@ -2,19 +2,11 @@
 ghost use mathlib.Core.Path.{_≡_};
 ghost use Prim.Native.Nat.{_+_, _≤_};
 ghost use lib.ListN.{length};
-ghost use lib.Seq.{sets};
-ghost use mathlib.Core.List.{[], _∷_};
-ghost use Rattle.lists.specs.Rows.{laidRows};
-ghost use Rattle.numbers.specs.BigEndian.{u16Bytes};
-ghost use Rattle.numbers.specs.Zeros.{zeros};
-ghost use Rattle.routes.specs.Form.{fieldsAt, routeAt, routeBytes, routeFormed, policyAt, policyFormed};
+ghost use Rattle.routes.specs.Form.{fieldsAt, routeAt, routeFormed, policyAt, policyFormed};
 use crate::Fields;
 use crate::Policy;
 use crate::Route;
 use numbers::all_zero;
-use numbers::put_u8;
-use numbers::put_u16;
-use numbers::put_zeros;
 use numbers::u16_at;
 
 // Whether the width bytes of b at an offset are a route: a zero present byte has only zeros behind it.
@@ -50,38 +42,6 @@ pub fn route_at(width: usize, b: &[u8], at: usize) -> Route
         0 => Route::None,
         _ => Route::Held(fields_at(b, at + 1 + (width - 9))),
     }
-}
-
-// Stores four numbers as eight bytes of out at an offset. The other bytes keep their values.
-fn put_four(out: &mut [u8], at: usize, first: u16, second: u16, third: u16, fourth: u16)
-    requires { ⌜ at + 8 ≤ length (now out) ⌝ }
-    ensures { λ _. ⌜ now (out .exit) ≡ sets (now (out .entry)) at (laidRows u16Bytes (first ∷ second ∷ third ∷ fourth ∷ [])) ⌝ }
-{
-    put_u16(out, at, first);
-    put_u16(out, at + 2, second);
-    put_u16(out, at + 4, third);
-    put_u16(out, at + 6, fourth);
-}
-
-// Stores a route as width bytes of out at an offset. The other bytes keep their values.
-pub fn put_route(width: usize, out: &mut [u8], at: usize, route: Route)
-    requires { ⌜ (9 ≤ width) × (at + width ≤ length (now out)) ⌝ }
-    ensures { λ _. ⌜ now (out .exit) ≡ sets (now (out .entry)) at (routeBytes width route) ⌝ }
-{
-    let Route::Held(f) = route else {
-        put_zeros(out, at, width);
-        return;
-    };
-    put_u8(out, at, 1);
-    put_zeros(out, at + 1, width - 9);
-    put_four(
-        out,
-        at + 1 + (width - 9),
-        f.preference,
-        f.cost,
-        f.origin,
-        f.tags,
-    );
 }
 
 // Whether the 13 bytes of b at an offset are a policy: the flag is 0 or 1, and a flag of 0 has preference 0.

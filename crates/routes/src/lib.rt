@@ -1,6 +1,6 @@
 // Routes: which of two is better, what a wire makes of one, whether a demand is met, and how a record holds them.
 //
-// What is decided of routes has no `requires`. The readers and writers of bytes ask for the room that they touch, which
+// What is decided of routes has no `requires`. The readers of bytes ask for the room that they touch, which
 // their callers have tested for the whole record.
 mod form;
 mod met;
@@ -9,7 +9,6 @@ mod wire;
 
 pub use form::policy_at;
 pub use form::policy_formed;
-pub use form::put_route;
 pub use form::route_at;
 pub use form::route_formed;
 pub use met::is_met;

@@ -25,7 +25,7 @@ use Rattle.reading.specs.Parts.{boxAt, boxBytes, promiseBytes, demandAt, demand
 use Rattle.reading.proofs.BoxCodec.{box, node-tests}
 use Rattle.reading.proofs.DemandCodec.{demand}
 use Rattle.reading.proofs.RowCodecs.{wire}
-use Rattle.writing.specs.Rows.{promisedAt, NodeAt, OwnAt, EdgeAt}
+use Rattle.writing.specs.Rows.{promisedAt, NodeAt, OwnAt, RouteAt, EdgeAt}
 use mathlib.Core.Option.{none}
 use Rattle.routes.specs.declared.Demand.the-variants.{Nothing}
 
@@ -41,29 +41,37 @@ module _ (f : Form) (usable : Usable f) where
   unfolding nodeWidth
   box-long v = box (f .route) (usable .wide) .size v
 
-  -- a node is its id, its kind, its route, and zeros behind it where it is an input
-  module _ (id : ℕ) (r : Route) where
-    abbrev w : ℕ
-    w = f .route
+-- a route's bytes are those that it was read from
+module _ (f : Form) (b : List ℕ) (o : ℕ) (h : RouteAt f b o) where
+  copied : routeBytes (f .route) (routeAt (f .route) b o) ≡ take (f .route) (drop o b)
+  copied = route (f .route) (h .usable .wide) .forth b o (h .there) (h .bytes, h .formed)
 
-    abbrev assumed : Box Route Demand
-    assumed = input (record { id = id; assumed = r })
+  copied-long : f .route ≡ length (take (f .route) (drop o b))
+  copied-long = sym (part-long b o (f .route) (h .there))
 
-    blank : promiseBytes w none ++ demandBytes Nothing ≡ replicate (6 + w) 0
-    unfolding promiseBytes demandBytes routeBytes u16Bytes
-    blank = ap (λ (z : List ℕ). 0 ∷ z) (replicate-append-replicate w 5 0) ∙ ap (λ (n : ℕ). replicate n 0) (let e : suc (w + 5) ≡ 6 + w = omega arith in e)
+-- a node is its id, its kind, its route, and zeros behind it where it is an input
+module _ (f : Form) (b : List ℕ) (o : ℕ) (h : RouteAt f b o) (id size : ℕ) (s : size ≡ nodeWidth f) where
+  abbrev w : ℕ
+  w = f .route
 
-    module _ (size : ℕ) (s : size ≡ nodeWidth f) where
-      pub input-size : size ≡ length (boxBytes w assumed)
-      input-size = s ∙ sym (box-long assumed)
+  abbrev assumed : Box Route Demand
+  assumed = input (record { id = id; assumed = routeAt w b o })
 
-      pub input-laid : (out one two three four : List ℕ) → nodeWidth f ≤ length out → one ≡ sets out 0 (u16Bytes id) → two ≡ sets one 2 (1 ∷ [])
-          → three ≡ sets two 3 (routeBytes w r) → four ≡ sets three (3 + w) (replicate (size - (3 + w)) 0) → four ≡ over (boxBytes w assumed) out
-      unfolding boxBytes nodeWidth
-      input-laid out one two three four room p q t u =
-          four-over out one two three four (u16Bytes id) (1 ∷ []) (routeBytes w r) (replicate (size - (3 + w)) 0) (boxBytes w assumed) 2 3 (3 + w)
-          (let e : 6 + w ≡ size - (3 + w) = omega arith in ap (λ (z : List ℕ). u16Bytes id ++ (1 ∷ (routeBytes w r ++ z))) (blank ∙ ap (λ (n : ℕ). replicate n 0) e))
-          (omega (arith, box-long assumed)) (sym (length-u16 id)) refl (omega (arith, route w (usable .wide) .size r)) p q t u
+  blank : promiseBytes w none ++ demandBytes Nothing ≡ replicate (6 + w) 0
+  unfolding promiseBytes demandBytes routeBytes u16Bytes
+  blank = ap (λ (z : List ℕ). 0 ∷ z) (replicate-append-replicate w 5 0) ∙ ap (λ (n : ℕ). replicate n 0) (let e : suc (w + 5) ≡ 6 + w = omega arith in e)
+
+  pub input-size : size ≡ length (boxBytes w assumed)
+  input-size = s ∙ sym (box-long f (h .usable) assumed)
+
+  pub input-laid : (out one two three four : List ℕ) → nodeWidth f ≤ length out → one ≡ sets out 0 (u16Bytes id) → two ≡ sets one 2 (1 ∷ [])
+      → three ≡ sets two 3 (take w (drop o b)) → four ≡ sets three (3 + w) (replicate (size - (3 + w)) 0) → four ≡ over (boxBytes w assumed) out
+  unfolding boxBytes nodeWidth
+  input-laid out one two three four room p q t u =
+      let zeros : 6 + w ≡ size - (3 + w) = omega arith in
+      four-over out one two three four (u16Bytes id) (1 ∷ []) (take w (drop o b)) (replicate (size - (3 + w)) 0) (boxBytes w assumed) 2 3 (3 + w)
+      (ap₂ (λ (x z : List ℕ). u16Bytes id ++ (1 ∷ (x ++ z))) (copied f b o h) (blank ∙ ap (λ (n : ℕ). replicate n 0) zeros))
+      (omega (arith, input-size)) (sym (length-u16 id)) refl (ap (λ (n : ℕ). 3 + n) (copied-long f b o h)) p q t u
 
 pub ruleset inputs = (input-size, input-laid)
 
@@ -81,7 +89,7 @@ module _ (f : Form) (b : List ℕ) (o : ℕ) (n : NodeAt f b o) (size : ℕ) (s 
 
 pub ruleset nodes = (node-size, node-laid)
 
-module _ (f : Form) (b : List ℕ) (o : ℕ) (n : OwnAt f b o) (r : Route) (size : ℕ) (s : size ≡ nodeWidth f) where
+module _ (f : Form) (b : List ℕ) (o : ℕ) (n : OwnAt f b o) (sheet : List ℕ) (note : ℕ) (h : RouteAt f sheet note) (size : ℕ) (s : size ≡ nodeWidth f) where
   abbrev v : ℕ
   v = f .route
 
@@ -100,7 +108,7 @@ module _ (f : Form) (b : List ℕ) (o : ℕ) (n : OwnAt f b o) (r : Route) (size
       let small = n .node .bytes in
       rw (three, long)
       (ap (λ (x : ℕ). u16Bytes (u16At b o) ++ ((x ∷ []) ++ routeBytes v (routeAt v b (o + 2 + 1)))) (sym (n .ours))
-      ∙ pair u16 (pair byte (route v enough)) .forth b o (let h = room-in in omega arith)
+      ∙ pair u16 (pair byte (route v enough)) .forth b o (let fits = room-in in omega arith)
       ((small o, small (o + 1)), (tt, (small, node-tests v enough b o (n .node .formed) .routed))))
 
   -- and the demand
@@ -111,28 +119,28 @@ module _ (f : Form) (b : List ℕ) (o : ℕ) (n : OwnAt f b o) (r : Route) (size
       let there : o + (3 + v + 1 + v) ≡ o + 4 + v + v = omega arith in
       let five : size - (3 + v + 1 + v) ≡ 5 = omega arith in
       rw (there, five)
-      (demand .forth b (o + 4 + v + v) (let h = room-in in omega arith) (n .node .bytes, rw here at (node-tests v enough b o (n .node .formed) .demanded)))
+      (demand .forth b (o + 4 + v + v) (let fits = room-in in omega arith) (n .node .bytes, rw here at (node-tests v enough b o (n .node .formed) .demanded)))
 
   abbrev promised : Box Route Demand
-  promised = promisedAt v b o r
+  promised = promisedAt v b o (routeAt v sheet note)
 
   pub promised-size : size ≡ length (boxBytes v promised)
   promised-size = s ∙ sym (box-long f (n .node .usable) promised)
 
-  row : boxBytes v promised ≡ take (3 + v) (drop o b) ++ ((1 ∷ []) ++ (routeBytes v r ++ take (size - (3 + v + 1 + v)) (drop (o + (3 + v + 1 + v)) b)))
+  row : boxBytes v promised ≡ take (3 + v) (drop o b) ++ ((1 ∷ []) ++ (take v (drop note sheet) ++ take (size - (3 + v + 1 + v)) (drop (o + (3 + v + 1 + v)) b)))
   unfolding boxBytes promiseBytes promisedAt
   row =
       sym (append-assoc (u16Bytes (u16At b o)) ((0 ∷ []) ++ routeBytes v (routeAt v b (o + 3))) _)
-      ∙ ap₂ _++_ lead-bytes (ap (λ (l : List ℕ). 1 ∷ (routeBytes v r ++ l)) demand-bytes)
+      ∙ ap₂ _++_ lead-bytes (ap₂ (λ (x y : List ℕ). 1 ∷ (x ++ y)) (copied f sheet note h) demand-bytes)
 
   pub promised-laid : (out one two three four : List ℕ) → nodeWidth f ≤ length out → one ≡ sets out 0 (take (3 + v) (drop o b)) → two ≡ sets one (3 + v) (1 ∷ [])
-      → three ≡ sets two (3 + v + 1) (routeBytes v r) → four ≡ sets three (3 + v + 1 + v) (take (size - (3 + v + 1 + v)) (drop (o + (3 + v + 1 + v)) b))
+      → three ≡ sets two (3 + v + 1) (take v (drop note sheet)) → four ≡ sets three (3 + v + 1 + v) (take (size - (3 + v + 1 + v)) (drop (o + (3 + v + 1 + v)) b))
       → four ≡ over (boxBytes v promised) out
   promised-laid out one two three four room p q t u =
-      four-over out one two three four (take (3 + v) (drop o b)) (1 ∷ []) (routeBytes v r)
+      four-over out one two three four (take (3 + v) (drop o b)) (1 ∷ []) (take v (drop note sheet))
       (take (size - (3 + v + 1 + v)) (drop (o + (3 + v + 1 + v)) b)) (boxBytes v promised) (3 + v) (3 + v + 1) (3 + v + 1 + v)
       row (omega (arith, promised-size))
-      (sym (part-long b o (3 + v) (let h = room-in in omega arith))) refl (ap (λ (k : ℕ). 3 + v + 1 + k) (sym (route v enough .size r))) p q t u
+      (sym (part-long b o (3 + v) (let fits = room-in in omega arith))) refl (ap (λ (k : ℕ). 3 + v + 1 + k) (copied-long f sheet note h)) p q t u
 
 pub ruleset promises = (promised-size, promised-laid)
 

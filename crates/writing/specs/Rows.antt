@@ -1,4 +1,4 @@
--- A node or an edge that is laid down from the bytes of another record, and what is asked of those bytes. w is the width of a route.
+-- A node or an edge that is laid down from the bytes of other records, and what is asked of those bytes. w is the width of a route.
 use Prim.Native.Nat.{ℕ, _+_, _≤_}
 use mathlib.Core.Bool.{true}
 use mathlib.Core.List.{List}
@@ -7,7 +7,7 @@ use mathlib.Core.Path.{_≡_}
 use lib.ListN.{length}
 use Rattle.lists.specs.Bytes.{Bytes}
 use Rattle.numbers.specs.BigEndian.{u16At}
-use Rattle.routes.specs.Form.{routeAt}
+use Rattle.routes.specs.Form.{routeAt, routeFormed}
 use Rattle.routes.specs.declared.Demand.{Demand}
 use Rattle.routes.specs.declared.Route.{Route}
 use Rattle.networks.specs.Network.{Box, own}
@@ -31,6 +31,13 @@ pub record NodeAt (f : Form) (b : List ℕ) (o : ℕ) : Type 0 where
 pub record OwnAt (f : Form) (b : List ℕ) (o : ℕ) : Type 0 where
   pub node : NodeAt f b o
   pub ours : kindAt (f .route) b o ≡ 0
+
+-- the bytes of b at o are a well-formed route
+pub record RouteAt (f : Form) (b : List ℕ) (o : ℕ) : Type 0 where
+  pub usable : Usable f
+  pub bytes : Bytes b
+  pub there : o + f .route ≤ length b
+  pub formed : routeFormed (f .route) b o ≡ true
 
 -- the bytes of b at o are an edge
 pub record EdgeAt (b : List ℕ) (o : ℕ) : Type 0 where

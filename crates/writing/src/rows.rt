@@ -3,10 +3,11 @@ ghost use mathlib.Core.Path.{_≡_};
 ghost use Prim.Native.Nat.{_≤_};
 ghost use lib.ListN.{length};
 ghost use Rattle.lists.specs.Laid.{over};
+ghost use Rattle.routes.specs.Form.{routeAt};
 ghost use Rattle.networks.specs.Network.{input};
-ghost use Rattle.layout.specs.Form.{Usable, nodeWidth};
+ghost use Rattle.layout.specs.Form.{nodeWidth};
 ghost use Rattle.reading.specs.Parts.{boxAt, boxBytes, wireAt, wireBytes};
-ghost use Rattle.writing.specs.Rows.{promisedAt, NodeAt, OwnAt, EdgeAt};
+ghost use Rattle.writing.specs.Rows.{promisedAt, NodeAt, OwnAt, RouteAt, EdgeAt};
 use layout::EDGE_WIDTH;
 use layout::Form;
 use layout::KIND_FIELD;
@@ -16,8 +17,6 @@ use numbers::put_part;
 use numbers::put_u8;
 use numbers::put_u16;
 use numbers::put_zeros;
-use routes::Route;
-use routes::put_route;
 
 // The node at an offset of a record, as it stands.
 pub fn put_node(form: Form, network: &[u8], at: usize, out: &mut [u8]) -> usize
@@ -30,33 +29,40 @@ pub fn put_node(form: Form, network: &[u8], at: usize, out: &mut [u8]) -> usize
     size
 }
 
-// The own node at an offset of a record, with another promise.
-pub fn put_promised(form: Form, network: &[u8], at: usize, promise: Route, out: &mut [u8]) -> usize
-    requires { ⌜ OwnAt form (now network) at × (nodeWidth form ≤ length (now out)) ⌝ }
-    ensures size { λ r. ⌜ r ≡ length (boxBytes (form .route) (promisedAt (form .route) (now (network .entry)) at promise)) ⌝ }
-    ensures laid { λ _. ⌜ now (out .exit) ≡ over (boxBytes (form .route) (promisedAt (form .route) (now (network .entry)) at promise)) (now (out .entry)) ⌝ }
+// The own node at an offset of a record, with another promise: the route at an offset of a sheet.
+pub fn put_promised(
+    form: Form,
+    network: &[u8],
+    at: usize,
+    sheet: &[u8],
+    note: usize,
+    out: &mut [u8],
+) -> usize
+    requires { ⌜ OwnAt form (now network) at × RouteAt form (now sheet) note × (nodeWidth form ≤ length (now out)) ⌝ }
+    ensures size { λ r. ⌜ r ≡ length (boxBytes (form .route) (promisedAt (form .route) (now (network .entry)) at (routeAt (form .route) (now (sheet .entry)) note))) ⌝ }
+    ensures laid { λ _. ⌜ now (out .exit) ≡ over (boxBytes (form .route) (promisedAt (form .route) (now (network .entry)) at (routeAt (form .route) (now (sheet .entry)) note))) (now (out .entry)) ⌝ }
 {
     let size = node_width(form);
     let flag = ROUTE_FIELD + form.route;
     let demand = flag + 1 + form.route;
     put_part(out, 0, network, at, flag);
     put_u8(out, flag, 1);
-    put_route(form.route, out, flag + 1, promise);
+    put_part(out, flag + 1, sheet, note, form.route);
     put_part(out, demand, network, at + demand, size - demand);
     size
 }
 
-// An input that is assumed to hold a route.
-pub fn put_input(form: Form, id: u16, assumed: Route, out: &mut [u8]) -> usize
-    requires { ⌜ Usable form × (nodeWidth form ≤ length (now out)) ⌝ }
-    ensures size { λ r. ⌜ r ≡ length (boxBytes (form .route) (input (record { id = id; assumed = assumed }))) ⌝ }
-    ensures laid { λ _. ⌜ now (out .exit) ≡ over (boxBytes (form .route) (input (record { id = id; assumed = assumed }))) (now (out .entry)) ⌝ }
+// An input that is assumed to hold the route at an offset of a sheet.
+pub fn put_input(form: Form, id: u16, sheet: &[u8], note: usize, out: &mut [u8]) -> usize
+    requires { ⌜ RouteAt form (now sheet) note × (nodeWidth form ≤ length (now out)) ⌝ }
+    ensures size { λ r. ⌜ r ≡ length (boxBytes (form .route) (input (record { id = id; assumed = routeAt (form .route) (now (sheet .entry)) note }))) ⌝ }
+    ensures laid { λ _. ⌜ now (out .exit) ≡ over (boxBytes (form .route) (input (record { id = id; assumed = routeAt (form .route) (now (sheet .entry)) note }))) (now (out .entry)) ⌝ }
 {
     let size = node_width(form);
     let behind = ROUTE_FIELD + form.route;
     put_u16(out, 0, id);
     put_u8(out, KIND_FIELD, 1);
-    put_route(form.route, out, ROUTE_FIELD, assumed);
+    put_part(out, ROUTE_FIELD, sheet, note, form.route);
     put_zeros(out, behind, size - behind);
     size
 }

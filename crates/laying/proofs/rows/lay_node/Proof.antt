@@ -14,20 +14,20 @@ element-copy-out-match c = search needs
 put-node-requires : tie.Need-put-node-requires
 put-node-requires c κs = (search keeping, search keeping)
 
-note-of-requires : tie.Need-note-of-requires
-note-of-requires c κs = (search needs, (search needs, search keeping))
+note-offset-requires : tie.Need-note-offset-requires
+note-offset-requires c κs = ((search needs, search needs), (search needs, search needs, search keeping))
 
 put-promised-requires : tie.Need-put-promised-requires
-put-promised-requires c κs = (search keeping, search keeping)
+put-promised-requires c κs = (search keeping, search keeping, search keeping)
 
-note-of-requires-2 : tie.Need-note-of-requires-2
-note-of-requires-2 c κs = (search needs, (search needs, search keeping))
+note-offset-requires-2 : tie.Need-note-offset-requires-2
+note-offset-requires-2 c κs = ((search needs, search needs), (search needs, search needs, search keeping))
 
 node-id-requires : tie.Need-node-id-requires
 node-id-requires c κs = search needs
 
 put-input-requires : tie.Need-put-input-requires
-put-input-requires c κs = (search needs, search keeping)
+put-input-requires c κs = (search keeping, search keeping)
 
 returns : tie.Need-returns
 returns c = (search (keeping, runs), search (keeping, runs))
@@ -57,9 +57,9 @@ lay-node-spec =
     node-offset-requires
     element-copy-out-match
     put-node-requires
-    note-of-requires
+    note-offset-requires
     put-promised-requires
-    note-of-requires-2
+    note-offset-requires-2
     node-id-requires
     put-input-requires
     returns

@@ -16,8 +16,8 @@ put-u16-requires c κs = search needs
 put-u8-requires : tie.Need-put-u8-requires
 put-u8-requires c κs = search needs
 
-put-route-requires : tie.Need-put-route-requires
-put-route-requires c κs = search needs
+put-part-requires : tie.Need-put-part-requires
+put-part-requires c κs = search needs
 
 sub-put-zeros : tie.Need-sub-put-zeros
 sub-put-zeros c = search needs
@@ -39,7 +39,7 @@ put-input-spec =
     add-behind
     put-u16-requires
     put-u8-requires
-    put-route-requires
+    put-part-requires
     sub-put-zeros
     put-zeros-requires
     same-length

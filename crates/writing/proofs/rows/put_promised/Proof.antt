@@ -22,20 +22,20 @@ put-part-requires c κs = search needs
 put-u8-requires : tie.Need-put-u8-requires
 put-u8-requires c κs = search needs
 
-add-put-route : tie.Need-add-put-route
-add-put-route c = search needs
-
-put-route-requires : tie.Need-put-route-requires
-put-route-requires c κs = search needs
-
 add-put-part : tie.Need-add-put-part
 add-put-part c = search needs
+
+put-part-requires-2 : tie.Need-put-part-requires-2
+put-part-requires-2 c κs = search needs
+
+add-put-part-2 : tie.Need-add-put-part-2
+add-put-part-2 c = search needs
 
 sub-put-part : tie.Need-sub-put-part
 sub-put-part c = search needs
 
-put-part-requires-2 : tie.Need-put-part-requires-2
-put-part-requires-2 c κs = search needs
+put-part-requires-3 : tie.Need-put-part-requires-3
+put-part-requires-3 c κs = search needs
 
 same-length : tie.Need-same-length
 same-length c = search needs
@@ -53,10 +53,10 @@ put-promised-spec =
     add-demand-2
     put-part-requires
     put-u8-requires
-    add-put-route
-    put-route-requires
     add-put-part
-    sub-put-part
     put-part-requires-2
+    add-put-part-2
+    sub-put-part
+    put-part-requires-3
     same-length
     returns)
