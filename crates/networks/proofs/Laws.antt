@@ -8,7 +8,7 @@
 --     Solutions                   solutions in a network and in its fragments
 --     Judging, Agreeing           the judge's answers; two lists that agree
 --     Mapping, Whole              what a list maps a fragment's boxes to; fragments and whole
---     Points                      the paper's definition of a fragment, id by id
+--     Points, Together            the paper's definition of a fragment, id by id; the fragments of one cut together
 pub mod Boxes
 pub mod Wires
 pub mod Entries
@@ -28,3 +28,4 @@ pub mod Agreeing
 pub mod Mapping
 pub mod Whole
 pub mod Points
+pub mod Together

@@ -9,3 +9,4 @@ pub mod Solution
 pub mod Judge
 pub mod Cut
 pub mod Paper
+pub mod Covering

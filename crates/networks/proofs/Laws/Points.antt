@@ -30,6 +30,18 @@ use Rattle.networks.proofs.Laws.Pieces.{box-piece, edge-fragment, wires
 use Rattle.lists.proofs.Answer.{isSome-true}
 use Rattle.networks.proofs.Laws.Formed.{Formed, fragment-formed}
 
+-- a box is an own one or an input
+module _ {R D : Type 0} where
+  box-either : (o : Option (Box R D)) → isBox o ≡ isOwnBox o || isSome (assumedOf o)
+  box-either none = refl
+  box-either (some (own b)) = refl
+  box-either (some (input a)) = refl
+
+  pub own-not-input : (o : Option (Box R D)) → isOwnBox o ≡ true → isSome (assumedOf o) ≡ false
+  own-not-input none t = refl
+  own-not-input (some (own b)) t = refl
+  own-not-input (some (input a)) t = absurd (false≢true t)
+
 -- what holds at every id: it has no box, an input or an own box
 by-box : {R P D : Type 0} (N : Network R P D) (Q : ℕ → Type 0)
     → ((i : ℕ) → box N i ≡ none → Q i) → ((a : Input R) → box N (a .id) ≡ some (input a) → Q (a .id))
@@ -47,11 +59,11 @@ module _ {R P D : Type 0} (N : Network R P D) (S : Sheet R) (k : ℕ) (formed : 
   F = fragment N S k
 
   -- every wire leads to an own box
-  into-feeds : (u : ℕ) → wiredInto N S k u ≡ feeds N S (only k) u
+  pub into-feeds : (u : ℕ) → wiredInto N S k u ≡ feeds N S (only k) u
   unfolding feeds
   into-feeds u = any-congr _ _ (N .wires) (all-map (N .wires) (λ w h. rw (h .to-own) refl) (formed .joined))
 
-  no-cut-into : (u : ℕ) → owns N u ≡ false → cutWireInto N S k u ≡ false
+  pub no-cut-into : (u : ℕ) → owns N u ≡ false → cutWireInto N S k u ≡ false
   no-cut-into u f = false-any _ (N .wires) (all-map (N .wires) at (formed .joined))
     where
       at : (w : Wire) → Joined N w → eqb (w .from) u && (isCut N S w && W N S k (w .to)) ≡ false
@@ -62,7 +74,7 @@ module _ {R P D : Type 0} (N : Network R P D) (S : Sheet R) (k : ℕ) (formed : 
           go false q = refl
           go true q = rw (eqb-true (w .from) u q, f) refl
 
-  cut-feeds : (u : ℕ) → owns N u ≡ true → cutWireInto N S k u ≡ not (only k (number S u)) && feeds N S (only k) u
+  pub cut-feeds : (u : ℕ) → owns N u ≡ true → cutWireInto N S k u ≡ not (only k (number S u)) && feeds N S (only k) u
   unfolding feeds
   cut-feeds u t = same-test _ _ forth back
     where
@@ -218,16 +230,6 @@ module _ {R P D : Type 0} (N : Network R P D) (S : Sheet R) (k : ℕ) (formed : 
 
   pub at-every : (u : ℕ) → At u
   at-every = by-box N At at-none at-input at-own
-
-  box-either : (o : Option (Box R D)) → isBox o ≡ isOwnBox o || isSome (assumedOf o)
-  box-either none = refl
-  box-either (some (own b)) = refl
-  box-either (some (input a)) = refl
-
-  own-not-input : (o : Option (Box R D)) → isOwnBox o ≡ true → isSome (assumedOf o) ≡ false
-  own-not-input none t = refl
-  own-not-input (some (own b)) t = refl
-  own-not-input (some (input a)) t = absurd (false≢true t)
 
   pub there : (u : ℕ) → hasBox F u ≡ V-k N S k u
   there u = box-either (box F u) ∙ ap₂ _||_ (at-every u .own-at) (at-every u .input-at)
