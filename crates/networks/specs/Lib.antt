@@ -10,3 +10,4 @@ pub mod Judge
 pub mod Cut
 pub mod Paper
 pub mod Covering
+pub mod Counts
