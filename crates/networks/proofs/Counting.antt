@@ -1,5 +1,5 @@
--- Where a list passes in every fragment, the fragments' judged counts add up to the whole's: on a pass all own boxes are judged, and each
--- own box of the network is one of exactly one fragment.
+-- Where a list passes in every fragment, the whole passes with the sum of the fragments' judged counts: on a pass all own boxes are judged,
+-- and each own box of the network is one of exactly one fragment.
 use mathlib.Core.Path.{_≡_, refl, sym, ap, _∙_, fun-ext}
 use mathlib.Core.Bool.{Bool, true, false, cond}
 use mathlib.Core.List.{[], _∷_}
@@ -16,7 +16,7 @@ use Rattle.networks.specs.Network.{Own, NetworkOver, ownBoxes}
 use Rattle.networks.specs.Sound.{Bounds, Sound}
 use Rattle.networks.specs.Sheets.{Sheet, RouteList, number, listed}
 use Rattle.networks.specs.Lowest.{Entered}
-use Rattle.networks.specs.Judge.{judge, judged, Passes}
+use Rattle.networks.specs.Judge.{pass, judge, judged, Passes}
 use Rattle.networks.specs.Cut.{only, promisingOwn, fragment, numbered, cut, Cuts}
 use Rattle.networks.specs.Counts.{sum, judgedIn}
 use Rattle.networks.proofs.Laws.Pieces.{own-boxes-fragment}
@@ -46,8 +46,7 @@ module _ (𝓐 : Algebra) (B : Bounds) (N : NetworkOver 𝓐) (S : Sheet (𝓐 .
       go false q = sym (ap length (filter-none (numbered N S k) (ownBoxes N) q))
 
   pub counts-add-up : Entered N (listed L) → (n : ℕ) → All (λ (b : Own Route Demand). number S (b .id) < n) (ownBoxes N)
-      → sum (judgedIn 𝓐 N S L) n ≡ judged (judge 𝓐 N L)
-  counts-add-up entered n low =
-      ap (λ (f : ℕ → ℕ). sum f n) (fun-ext part-count)
-      ∙ sum-numbers (λ (b : Own Route Demand). number S (b .id)) n (ownBoxes N) low
-      ∙ sym (ap judged ((fragments-and-whole 𝓐 B N S L sound cuts entered) .0 parts .0))
+      → judge 𝓐 N L ≡ given (pass (sum (judgedIn 𝓐 N S L) n))
+  counts-add-up entered n low = (fragments-and-whole 𝓐 B N S L sound cuts entered) .0 parts .0
+      ∙ ap (λ (count : ℕ). given (pass count)) (sym (ap (λ (f : ℕ → ℕ). sum f n) (fun-ext part-count)
+      ∙ sum-numbers (λ (b : Own Route Demand). number S (b .id)) n (ownBoxes N) low))

@@ -1,6 +1,7 @@
 -- Document 000's definition IV.3 in its own names, read on the ids of a network. proofs/PaperCut.antt shows that `fragment` agrees with
 -- it point by point, but for the edges, which document 01 mends.
---     init, ass, guar, V-in, V-out, E, transAt     the parts of an open network; `demanded`, which document 01 adds
+--     init, ass, guar, V-in, V-out, E, transAt     the parts of an open network
+--     demanded                            the demand at a box, which document 01 adds
 --     W .. guar-k                         the parts of fragment k, as the paper has them
 --     AgreesWithPaper                     what is shown of the fragment
 --     MadeUp                              a mapping that is made up of one mapping for each fragment (theorem IV.1)
@@ -39,9 +40,9 @@ module _ {R D : Type 0} where
   demandedOf (some (own b)) = some (b .demand)
   demandedOf (some (input a)) = none
 
--- the wire leads from u to v
-abbrev pub joins : ℕ → ℕ → Wire → Bool
-joins u v w = eqb (w .from) u && eqb (w .to) v
+-- the wire is one from u to v
+abbrev pub between : ℕ → ℕ → Wire → Bool
+between u v w = eqb (w .from) u && eqb (w .to) v
 
 module _ {R P D : Type 0} (N : Network R P D) where
   -- init, ass and guar are partial; V-in is where ass is defined, V-out where guar is
@@ -62,7 +63,7 @@ module _ {R P D : Type 0} (N : Network R P D) where
 
   -- uv ∈ E
   abbrev pub E : ℕ → ℕ → Bool
-  E u v = any (joins u v) (N .wires)
+  E u v = any (between u v) (N .wires)
 
   -- the wire that is uv: of the wires into v the one from u
   abbrev pub edge : ℕ → ℕ → Option Wire

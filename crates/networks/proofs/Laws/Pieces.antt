@@ -21,7 +21,7 @@ use Rattle.networks.specs.Network.{Own, Input, Box, own, input, Wire, Ne
 use Rattle.networks.specs.Sound.{sends}
 use Rattle.networks.specs.Sheets.{Sheet, number, note}
 use Rattle.networks.specs.Cut.{feeds, promisingOwn, assuming, piece, fragmentOf}
-use Rattle.networks.specs.Paper.{joins, E}
+use Rattle.networks.specs.Paper.{between, E}
 
 module _ {R P D : Type 0} (N : Network R P D) (S : Sheet R) (κ : ℕ → Bool) where
   -- what is kept of a box has its id
@@ -135,19 +135,19 @@ module _ {R P D : Type 0} (N : Network R P D) (S : Sheet R) (κ : ℕ → Bool) 
   -- edges are kept by their to end
   pub edge-fragment : (u v : ℕ) → E (fragmentOf N S κ) u v ≡ κ (number S v) && E N u v
   unfolding fragmentOf
-  edge-fragment u v = any-filter (λ (w : Wire). κ (number S (w .to))) (joins u v) (N .wires) ∙ same-test _ _ forth back
+  edge-fragment u v = any-filter (λ (w : Wire). κ (number S (w .to))) (between u v) (N .wires) ∙ same-test _ _ forth back
     where
-      to : (w : Wire) → joins u v w ≡ true → κ (number S (w .to)) ≡ κ (number S v)
+      to : (w : Wire) → between u v w ≡ true → κ (number S (w .to)) ≡ κ (number S v)
       to w h = ap (λ (j : ℕ). κ (number S j)) (eqb-true (w .to) v (and-r (eqb (w .from) u) (eqb (w .to) v) h))
 
-      forth : any (λ (w : Wire). κ (number S (w .to)) && joins u v w) (N .wires) ≡ true → κ (number S v) && E N u v ≡ true
+      forth : any (λ (w : Wire). κ (number S (w .to)) && between u v w) (N .wires) ≡ true → κ (number S v) && E N u v ≡ true
       forth e =
-          let f = any-found (λ (w : Wire). κ (number S (w .to)) && joins u v w) (N .wires) (any-here (N .wires)) e in
+          let f = any-found (λ (w : Wire). κ (number S (w .to)) && between u v w) (N .wires) (any-here (N .wires)) e in
           let w = f .0 in
-          let j : joins u v w ≡ true = and-r (κ (number S (w .to))) (joins u v w) (f .2) in
-          and-i _ _ (sym (to w j) ∙ and-l (κ (number S (w .to))) (joins u v w) (f .2)) (f .1 (joins u v) j)
+          let j : between u v w ≡ true = and-r (κ (number S (w .to))) (between u v w) (f .2) in
+          and-i _ _ (sym (to w j) ∙ and-l (κ (number S (w .to))) (between u v w) (f .2)) (f .1 (between u v) j)
 
-      back : κ (number S v) && E N u v ≡ true → any (λ (w : Wire). κ (number S (w .to)) && joins u v w) (N .wires) ≡ true
+      back : κ (number S v) && E N u v ≡ true → any (λ (w : Wire). κ (number S (w .to)) && between u v w) (N .wires) ≡ true
       back e = any-mono _ _ (N .wires) (all-of (N .wires) (λ w h. and-i _ _ (to w h ∙ and-l (κ (number S v)) (E N u v) e) h))
           (and-r (κ (number S v)) (E N u v) e)
 

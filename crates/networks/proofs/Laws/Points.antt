@@ -13,7 +13,6 @@ use borrow.Author.Tests.{eqb-true, eqb-false, eq-eqb, ne-eqb, not-true}
 use Rattle.lists.proofs.Test.{and-l, and-r, and-i, or-i-l, same-test}
 use Rattle.lists.proofs.All.{all-map, all-of, any-congr, any-mono, any-found, false-any}
 use Rattle.lists.specs.All.{any}
-use Rattle.lists.proofs.Filter.{any-filter}
 use Rattle.lists.specs.Sorted.{find}
 use Rattle.lists.proofs.Sorted.{find-key}
 use Rattle.networks.specs.Algebra.{Algebra}

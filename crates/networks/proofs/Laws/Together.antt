@@ -17,8 +17,8 @@ use Rattle.networks.specs.Network.{Own, Input, Box, own, input, Wire, Ne
 use Rattle.networks.specs.Sound.{Bounds, Sound, sends}
 use Rattle.networks.specs.Sheets.{Sheet, number, note}
 use Rattle.networks.specs.Cut.{only, leaves, feeds, piece, fragment}
-use Rattle.networks.specs.Paper.{assumedOf, promiseOf, joins, ass, guar, V-in, V-out, E, W, wiredInto, cutWireInto, V-in-k}
-use Rattle.networks.specs.Covering.{InSome, InOne, Crosses, Covering}
+use Rattle.networks.specs.Paper.{assumedOf, promiseOf, between, ass, guar, V-in, V-out, E, W, wiredInto, cutWireInto}
+use Rattle.networks.specs.Covering.{InOne, Crosses, Covering}
 use Rattle.networks.proofs.Laws.Boxes.{owned, own-fact, own-found, input-found}
 use Rattle.networks.proofs.Laws.Pieces.{box-piece, edge-fragment}
 use Rattle.networks.proofs.Laws.Formed.{Formed, sound-formed, feeds-leaves}
@@ -88,7 +88,7 @@ module _ {R P D : Type 0} (B : Bounds) (N : Network R P D) (S : Sheet R) (sound 
   -- the wires of an edge
   edge-own : (u v : ℕ) → E N u v ≡ true → owns N v ≡ true
   edge-own u v e =
-      let f = any-found (joins u v) (N .wires) (formed .joined) e in
+      let f = any-found (between u v) (N .wires) (formed .joined) e in
       ap (owns N) (sym (eqb-true (f .0 .to) v (and-r (eqb (f .0 .from) u) (eqb (f .0 .to) v) (f .2)))) ∙ f .1 .to-own
 
   edge-feeds : (u v : ℕ) → E N u v ≡ true → feeds N S (only (number S v)) u ≡ true
@@ -100,7 +100,7 @@ module _ {R P D : Type 0} (B : Bounds) (N : Network R P D) (S : Sheet R) (sound 
   input-edge : (u : ℕ) → V-in N u ≡ true → (v : ℕ) × (E N u v ≡ true)
   input-edge u i =
       let f = any-found (λ (w : Wire). eqb (w .from) u) (N .wires) (any-here (N .wires)) (go (box N u) refl i) in
-      (f .0 .to, f .1 (joins u (f .0 .to)) (and-i _ _ (f .2) (eq-eqb (f .0 .to) _ refl)))
+      (f .0 .to, f .1 (between u (f .0 .to)) (and-i _ _ (f .2) (eq-eqb (f .0 .to) _ refl)))
     where
       go : (o : Option (Box R D)) → box N u ≡ o → isSome (assumedOf o) ≡ true → sends N u ≡ true
       go none q h = absurd (false≢true h)
@@ -152,9 +152,13 @@ module _ {R P D : Type 0} (B : Bounds) (N : Network R P D) (S : Sheet R) (sound 
           (λ m h. inside m u (own-inside m u h));
       inputs = λ u i.
           let f = input-edge u i in
-          let o = edge-own u (f .0) (f .1) in
-          (number S (f .0), fragment N S (number S (f .0)), part (f .0) o, at (number S (f .0)) u .input-at ∙ or-i-l _ _ (and-i _ _ i
-          (into-feeds N S (number S (f .0)) formed (fits .entered) u ∙ edge-feeds u (f .0) (f .1))));
+          let o = edge-own u (f .0) (f .1) in (
+            number S (f .0),
+            fragment N S (number S (f .0)),
+            part (f .0) o,
+            at (number S (f .0)) u .input-at ∙ or-i-l _ _ (and-i _ _ i
+                (into-feeds N S (number S (f .0)) formed (fits .entered) u ∙ edge-feeds u (f .0) (f .1))),
+          );
       outputs = λ u e. let t = output-own u e in in-one (λ (F : Network R P D). V-out F u) u t
           (at (number S u) u .output-at ∙ or-i-l _ _ (and-i _ _ (home u t) e))
           (λ m h. inside m u (either-first (W N S m u) (V-out N u) (leaves N S u) (sym (at m u .output-at) ∙ h)));
