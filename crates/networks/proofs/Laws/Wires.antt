@@ -45,8 +45,11 @@ from-rise : (v low : ℕ) (ws : List Wire) → All (λ (w : Wire). w .to ≡ v) 
 from-rise v low [] h r = tt
 from-rise v low (w ∷ ws) h r =
     let e : w .to ≡ v = h .0 in
-    let l : low ≤ wireKey w = r .0 in
-    (omega arith, rises-weak (λ (x : Wire). x .from) (suc (w .from)) (suc (wireKey w) - v * ids) ws (omega arith) (from-rise v (suc (wireKey w)) ws (h .1) (r .1)))
+    let l : low ≤ wireKey w = r .0 in (
+      omega arith,
+      rises-weak (λ (x : Wire). x .from) (suc (w .from)) (suc (wireKey w) - v * ids) ws (omega arith)
+          (from-rise v (suc (wireKey w)) ws (h .1) (r .1)),
+    )
 
 module _ {R P D : Type 0} (N : Network R P D) where
   pub edge-there : (u v : ℕ) → isSome (edge N u v) ≡ E N u v
