@@ -1,5 +1,5 @@
 -- What the cutter answers of two records, by what their bytes say: the theorems about networks, carried over by the bridges.
---     cut-said                        records that are not refused are cut by what they say
+--     cut-said, said                  records that are not refused are cut by what they say; what is given is given of such records
 --     cut-fragment, cut-sound         what is given is the fragment, and a sound network
 --     record-fine, record-form, record-read, record-small     its record is not refused, has the network's form, says the fragment, and is bytes: so it can be judged, and cut again
 --     record-shorter, record-largest  its record is no longer than the network's, and than the largest
@@ -65,7 +65,7 @@ module _ (network sheet : List ℕ) (k : ℕ) where
   cut-said n s = rw (n, s)
 
   -- what is answered with a fragment is not refused
-  said : (F : HouseNetwork) → cutNetwork network sheet k ≡ given F
+  pub said : (F : HouseNetwork) → cutNetwork network sheet k ≡ given F
       → SoundRecord network × WellFormed sheetLead sheet × (cut (house highest) N S k ≡ given F)
   unfolding cutNetwork
   said F e =

@@ -1,4 +1,5 @@
 -- Laws about the definitions of specs/, in the order in which they rest on each other.
+--     Counts                      numbers added up
 --     Boxes, Wires, Entries       boxes by kind and id; the order of wires; what a sheet or a list says of a box
 --     Named, Lowest              the box that an answer names; answers and refusals taken apart
 --     Order                       the order that the laws of choice make
@@ -8,7 +9,8 @@
 --     Solutions                   solutions in a network and in its fragments
 --     Judging, Agreeing           the judge's answers; two lists that agree
 --     Mapping, Whole              what a list maps a fragment's boxes to; fragments and whole
---     Points                      the paper's definition of a fragment, id by id
+--     Points, Together            the paper's definition of a fragment, id by id; the fragments of one cut together
+pub mod Counts
 pub mod Boxes
 pub mod Wires
 pub mod Entries
@@ -28,3 +30,4 @@ pub mod Agreeing
 pub mod Mapping
 pub mod Whole
 pub mod Points
+pub mod Together

@@ -3,7 +3,9 @@
 --     Passing, SameAnswer          demand 2, of the judge; lists that agree
 --     Refusals                     17, 18 and 19 with their places
 --     PaperCut, FragmentSound, OneFragment     the fragment: the paper's, sound, and the network itself where nothing is cut
+--     Covering                     the fragments together: they cover the network, and across a cut one promises what the other assumes
 --     FragmentsAndWhole, Recutting     the two halves of demand 3
+--     Counting                     the fragments' judged counts
 --     PaperTheorems                what document 000 proves
 --     Laws                         all else
 pub mod SoundTest
@@ -11,9 +13,11 @@ pub mod Passing
 pub mod SameAnswer
 pub mod Refusals
 pub mod PaperCut
+pub mod Covering
 pub mod FragmentSound
 pub mod OneFragment
 pub mod FragmentsAndWhole
+pub mod Counting
 pub mod Recutting
 pub mod PaperTheorems
 pub mod BestRoute

@@ -1,7 +1,8 @@
 -- Demand 3, second half. X and Y are two sheets with the same boxes and notes, and Z is a third that keeps two boxes together exactly
 -- where both do. Where Z cuts a sound network, cutting by X and the fragment by Y gives Z's fragment of those boxes, or is refused with
--- 18 where no own box is in both; Y before X gives the same. Buffers do not come into it here.
-use mathlib.Core.Path.{_≡_, refl, sym, ap, _∙_}
+-- 18 where no own box is in both; Y before X gives the same; with one sheet for all three a fragment is cut into itself. Buffers do not
+-- come into it here.
+use mathlib.Core.Path.{_≡_, refl, sym, ap, _∙_, subst}
 use mathlib.Core.Bool.{Bool, true, false, _&&_}
 use Prim.Native.Nat.{ℕ}
 use lib.Dec.{eqb}
@@ -13,11 +14,11 @@ use Rattle.networks.specs.Algebra.{Algebra}
 use Rattle.networks.specs.Network.{Own, NetworkOver, isOwnBox, ownBoxes, owns}
 use Rattle.networks.specs.Sound.{Bounds, Sound}
 use Rattle.networks.specs.Sheets.{Sheet, number}
-use Rattle.lists.specs.Answer.{given, refused}
+use Rattle.lists.specs.Answer.{Answer, given, refused, andThen}
 use Rattle.networks.specs.Cut.{fragment, numbered, cut, cutTwice, Cuts, Third}
 use Rattle.networks.proofs.Laws.Boxes.{own-there, own-any}
 use Rattle.networks.proofs.Laws.Formed.{Formed, sound-formed}
-use Rattle.networks.proofs.Laws.Cutting.{Fits, cut-answer, own-cut, cuts-fits}
+use Rattle.networks.proofs.Laws.Cutting.{Fits, cut-answer, own-cut, cut-given, cuts-fits}
 use Rattle.networks.proofs.Laws.Recut.{both-numbered, meet, first-fits, second-fits, recut}
 
 -- X and Y may change places in all of this
@@ -88,3 +89,18 @@ pub second-then-first : (𝓐 : Algebra) (B : Bounds) (N : NetworkOver 𝓐) (X 
     → cutTwice 𝓐 N Y (number Y w) X (number X w) ≡ cutTwice 𝓐 N X (number X w) Y (number Y w)
 second-then-first 𝓐 B N X Y Z sound third cuts w t =
     first-then-second 𝓐 B N Y X Z sound (swapped X Y Z third) cuts w t ∙ sym (first-then-second 𝓐 B N X Y Z sound third cuts w t)
+
+-- A fragment cut again by its own sheet is itself: the sheet is the common refinement of itself with itself.
+pub cut-again : (𝓐 : Algebra) (B : Bounds) (N : NetworkOver 𝓐) (S : Sheet (𝓐 .Route)) → Sound B N
+    → (k : ℕ) (F : NetworkOver 𝓐) → cut 𝓐 N S k ≡ given F → cut 𝓐 F S k ≡ given F
+cut-again 𝓐 B N S sound k F e =
+    let c = cut-given 𝓐 N S k F e in
+    let f = any-found (numbered N S k) (ownBoxes N) (own-there N (sound .boxes-rise)) (c .1) in
+    let q : number S (f .0 .id) ≡ k = eqb-true (number S (f .0 .id)) k (f .2) in
+    sym (ap (λ (a : Answer (NetworkOver 𝓐)). andThen a (λ (G : NetworkOver 𝓐). cut 𝓐 G S k)) e)
+    ∙ subst (λ (j : ℕ). cutTwice 𝓐 N S j S j ≡ cut 𝓐 N S j) q
+    (first-then-second 𝓐 B N S S S sound itself ((cuts-fits 𝓐 N S B sound) .1 (c .0)) (f .0 .id) (ap isOwnBox (f .1)))
+    ∙ e
+  where
+    itself : Third S S S
+    itself = record { first-notes = λ i. refl; second-notes = λ i. refl; together = λ u v p q. (λ e. (e, e), λ e. e .0) }

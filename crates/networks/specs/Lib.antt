@@ -9,3 +9,5 @@ pub mod Solution
 pub mod Judge
 pub mod Cut
 pub mod Paper
+pub mod Covering
+pub mod Counts

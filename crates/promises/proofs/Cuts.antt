@@ -1,7 +1,8 @@
 -- What a cut leaves in a buffer, by the fragment; and what a sheet that cuts a network tells of the two records.
---     into-fragment, into-given        the record at the buffer's start is the fragment's
+--     into-laid, into-given, into-fragment        the record at the buffer's start is the fragment's
+--     record-said                      what a fragment's record says
 --     twice-said                       one cut upon another's record is one cut upon another's fragment
---     given-asked                      a fragment that is given was asked for by a byte
+--     number-entered, given-asked      fragment numbers end at 63; a fragment that is given was asked for by a byte
 --     cuts-network, cuts-sheet, cuts-said    neither record is refused, and the sheet cuts what the network says
 use mathlib.Core.Path.{_≡_, refl, sym, ap, _∙_}
 use mathlib.Core.Bool.{Bool, true, false, false≢true}
@@ -21,7 +22,7 @@ use Rattle.lists.proofs.Sorted.{find-all}
 use Rattle.lists.specs.Test.{firstOf}
 use Rattle.lists.proofs.Test.{le-or-lt}
 use Rattle.routes.specs.declared.Route.{Route}
-use Rattle.lists.specs.Answer.{Answer, given, refused, andThen, row}
+use Rattle.lists.specs.Answer.{Answer, given, refused, andThen, isSome, row}
 use Rattle.networks.specs.Lowest.{unentered}
 use Rattle.networks.specs.Cut.{numbered, cut, cutTwice, Cuts}
 use Rattle.networks.specs.Network.{ownBoxes}
@@ -36,7 +37,7 @@ use Rattle.records.specs.Network.{networkTable, networkRefusal, SoundRecord}
 use Rattle.reading.specs.Whole.{HouseNetwork, HouseSheet, bounds, writeNetwork, networkOf, sheetOf, readNetwork}
 use Rattle.reading.proofs.Bridges.{read-network, read-sheet}
 use Rattle.cutting.specs.Cutting.{cutNetwork, cutRecords, cutBuffer}
-use Rattle.cutting.proofs.OnBytes.{cut-said, cut-laid, record-largest, record-fine, record-read, record-small, record-form}
+use Rattle.cutting.proofs.OnBytes.{cut-said, cut-laid, cut-short, record-largest, record-fine, record-read, record-small, record-form}
 use Rattle.promises.specs.Calls.{house1, cutInto, Roomy, SheetCuts}
 use Rattle.promises.specs.Demand3 as demand
 use Rattle.layout.specs.declared.Form.{Form}
@@ -46,31 +47,50 @@ use Rattle.records.proofs.Checked.{given-network, given-entries}
 abbrev pub written : Form → HouseNetwork → Answer (List ℕ)
 written f F = given (writeNetwork f F)
 
-module _ (network sheet : List ℕ) (k : ℕ) (out : List ℕ) (small : Bytes network) (roomy : Roomy (formOf network) out) where
+module _ (network sheet : List ℕ) (k : ℕ) (out : List ℕ) where
   abbrev f : Form
   f = formOf network
 
-  pub into-fragment : cutInto network sheet k out ≡ andThen (cutNetwork network sheet k) (written f)
-  unfolding cutInto cutRecords
-  into-fragment = go (cutNetwork network sheet k) refl
-    where
-      go : (a : Answer HouseNetwork) → cutNetwork network sheet k ≡ a → cutInto network sheet k out ≡ andThen a (written f)
-      go (given F) q =
-          let short = record-largest network sheet k small F q in
-          let laid = cut-laid network sheet k out F q (omega arith) in
-          ap (λ (a : Answer ℕ). andThen a (λ (n : ℕ). given (take n (cutBuffer network sheet k out)))) (laid .0)
-          ∙ ap (λ (b : List ℕ). given (take (length (writeNetwork f F)) b)) (laid .1)
-          ∙ ap given (take-append-seam (writeNetwork f F) _)
-      go (refused m p) q = rw q refl
+  -- a fragment that there is room for leaves its record
+  pub into-laid : (G : HouseNetwork) → cutNetwork network sheet k ≡ given G → length (writeNetwork f G) ≤ length out
+      → cutInto network sheet k out ≡ given (writeNetwork f G)
+  unfolding cutInto
+  into-laid G q room =
+      let laid = cut-laid network sheet k out G q room in
+      ap (λ (a : Answer ℕ). andThen a (λ (n : ℕ). given (take n (cutBuffer network sheet k out)))) (laid .0)
+      ∙ ap (λ (b : List ℕ). given (take (length (writeNetwork f G)) b)) (laid .1)
+      ∙ ap given (take-append-seam (writeNetwork f G) _)
 
   -- a record that was left is a fragment's
   pub into-given : (F : List ℕ) → cutInto network sheet k out ≡ given F → (G : HouseNetwork) × (cutNetwork network sheet k ≡ given G) × (F ≡ writeNetwork f G)
-  into-given F e = go (cutNetwork network sheet k) refl (sym into-fragment ∙ e)
+  unfolding cutInto cutRecords
+  into-given F e = go (cutNetwork network sheet k) refl
     where
-      go : (a : Answer HouseNetwork) → cutNetwork network sheet k ≡ a → andThen a (written f) ≡ given F
-          → (G : HouseNetwork) × (cutNetwork network sheet k ≡ given G) × (F ≡ writeNetwork f G)
-      go (given G) q z = (G, q, sym (given-same z))
-      go (refused m p) q z = absurd (refused-given z)
+      left : (m p : ℕ) → cutRecords network sheet k (length out) ≡ refused m p → ⊥
+      left m p q = refused-given (sym (ap (λ (a : Answer ℕ). andThen a (λ (n : ℕ). given (take n (cutBuffer network sheet k out)))) q) ∙ e)
+
+      go : (a : Answer HouseNetwork) → cutNetwork network sheet k ≡ a → (G : HouseNetwork) × (cutNetwork network sheet k ≡ given G) × (F ≡ writeNetwork f G)
+      go (given G) q = (
+        G,
+        q,
+        ⊎-elim (λ room. given-same (sym e ∙ into-laid G q room)) (λ room. absurd (left 20 _ ((cut-short network sheet k out G q room) .0)))
+            (le-or-lt (length (writeNetwork f G)) (length out)),
+      )
+      go (refused m p) q = absurd (left m p (rw q refl))
+
+  pub into-fragment : Bytes network → Roomy (formOf network) out → cutInto network sheet k out ≡ andThen (cutNetwork network sheet k) (written f)
+  unfolding cutInto cutRecords
+  into-fragment small roomy = go (cutNetwork network sheet k) refl
+    where
+      go : (a : Answer HouseNetwork) → cutNetwork network sheet k ≡ a → cutInto network sheet k out ≡ andThen a (written f)
+      go (given G) q = let short = record-largest network sheet k small G q in into-laid G q (omega arith)
+      go (refused m p) q = rw q refl
+
+pub record-said : (network sheet : List ℕ) (k : ℕ) → Bytes network → Bytes sheet → (G : HouseNetwork) → cutNetwork network sheet k ≡ given G
+    → networkOf (writeNetwork (formOf network) G) ≡ G
+record-said network sheet k small sheet-small G e =
+    ap (λ (f : Form). readNetwork f (writeNetwork (formOf network) G)) (record-form network sheet k small G e sheet-small)
+    ∙ record-read network sheet k small G e sheet-small
 
 module _ (network X Y : List ℕ) (x y : ℕ) (o₁ o₂ : List ℕ) (small : Bytes network) (first-small : Bytes X)
     (roomy₁ : Roomy (formOf network) o₁) (roomy₂ : Roomy (formOf network) o₂)
@@ -93,8 +113,7 @@ module _ (network X Y : List ℕ) (x y : ℕ) (o₁ o₂ : List ℕ) (small : By
           ∙ ap (λ (h : Form). andThen (cutNetwork W Y y) (written h)) form
           ∙ ap (λ (a : Answer HouseNetwork). andThen a (written g))
           (cut-said W Y y (record-fine network X x small G q first-small) second-formed
-          ∙ ap (λ (H : HouseNetwork). cut house1 H (sheetOf Y) y)
-          (ap (λ (h : Form). readNetwork h W) form ∙ record-read network X x small G q first-small))
+          ∙ ap (λ (H : HouseNetwork). cut house1 H (sheetOf Y) y) (record-said network X x small first-small G q))
       go (refused m p) q = refl
 
 -- no number of a table's rows is over 17
@@ -113,6 +132,16 @@ number-small S h i = go (sheetEntry S i) refl
     go : (o : Option (SheetEntry Route)) → sheetEntry S i ≡ o → Option·getD (Option·map (λ (e : SheetEntry Route). e .fragment) o) 64 ≤ 64
     go none q = omega arith
     go (some e) q = let l = find-all (λ (x : SheetEntry Route). x .id) (λ (x : SheetEntry Route). x .fragment ≤ 63) i S e h q in omega arith
+
+-- and a box with an entry has one up to 63
+pub number-entered : (S : HouseSheet) → All (λ (e : SheetEntry Route). e .fragment ≤ 63) S → (i : ℕ) → isSome (note S i) ≡ true → number S i < 64
+unfolding number note
+number-entered S h i = go (sheetEntry S i) refl
+  where
+    go : (o : Option (SheetEntry Route)) → sheetEntry S i ≡ o → isSome (Option·map (λ (e : SheetEntry Route). e .note) o) ≡ true
+        → Option·getD (Option·map (λ (e : SheetEntry Route). e .fragment) o) 64 < 64
+    go none q t = absurd (false≢true t)
+    go (some e) q t = let l = find-all (λ (x : SheetEntry Route). x .id) (λ (x : SheetEntry Route). x .fragment ≤ 63) i S e h q in omega arith
 
 module _ (network sheet : List ℕ) (sheet-small : Bytes sheet) (s : WellFormed sheetLead sheet) (k : ℕ) where
   abbrev N : HouseNetwork

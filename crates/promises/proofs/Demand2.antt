@@ -16,21 +16,21 @@ use Rattle.networks.specs.Sheets.{listed}
 use Rattle.networks.proofs.Laws.Lowest.{none-entered}
 use Rattle.networks.proofs.Laws.Boxes.{own-fact}
 use Rattle.networks.proofs.Laws.Uncut.{same-network}
+use Rattle.networks.proofs.Laws.Cutting.{cut-given, cuts-fits}
 use Rattle.networks.proofs.PaperCut.{paper-cut}
 use Rattle.networks.proofs.Refusals.{judge-refused}
-use Rattle.reading.specs.Whole.{HouseNetwork, HouseList, bounds, writeNetwork, networkOf, sheetOf, listOf, readNetwork}
+use Rattle.reading.specs.Whole.{HouseNetwork, HouseList, bounds, writeNetwork, networkOf, sheetOf, listOf}
 use Rattle.reading.proofs.Bridges.{read-network}
 use Rattle.judging.specs.Judging.{judgeRecords}
 use Rattle.judging.proofs.OnBytes.{judge-said, judge-passes, pass-judged, judge-finds, found-judged}
 use Rattle.cutting.specs.Cutting.{cutNetwork}
-use Rattle.cutting.proofs.OnBytes.{cut-laid, cut-short, record-fine, record-small, record-read, record-shorter, record-largest, record-form}
+use Rattle.cutting.proofs.OnBytes.{said, cut-fragment, cut-laid, cut-short, record-fine, record-small, record-shorter, record-largest}
 use Rattle.promises.specs.Calls.{house1}
 use Rattle.promises.specs.Demand2.{PassesExactly, PassCounts, FindsFirst, EntryAsked, CutsFragment, RecordSound, PaperFragment, OneFragment}
-use Rattle.promises.proofs.Cuts.{cuts-sound, cuts-said}
+use Rattle.promises.proofs.Cuts.{into-given, record-said}
 use Rattle.promises.proofs.Demand1.{cut-rows}
 use Rattle.layout.specs.Form.{formOf}
 use Rattle.promises.specs.Demand1.{fragmentRecord, cuttingTable}
-use Rattle.layout.specs.declared.Form.{Form}
 
 module _ (network list : List ℕ) where
   abbrev N : HouseNetwork
@@ -82,14 +82,20 @@ module _ (network sheet : List ℕ) (k : ℕ) where
       let e = fragment-given h in (
         record-fine network sheet k small _ e sheet-small,
         record-small network sheet k small _ e sheet-small,
-        ap (λ (f : Form). readNetwork f F) (record-form network sheet k small _ e sheet-small) ∙ record-read network sheet k small _ e sheet-small,
+        record-said network sheet k small sheet-small _ e,
         record-shorter network sheet k small _ e,
         record-largest network sheet k small _ e,
       )
 
   pub paper-fragment : PaperFragment network sheet k
-  paper-fragment small sheet-small cuts = paper-cut house1 (bounds (formOf network)) (networkOf network) (sheetOf sheet) k
-      (cuts-sound network sheet cuts small) (cuts-said network sheet cuts small sheet-small)
+  paper-fragment small sheet-small out left e =
+      let g = into-given network sheet k out left e in
+      let v = said network sheet k (g .0) (g .1) in
+      let sound = (read-network network small (v .0)) .0 in
+      let fits = (cut-given house1 (networkOf network) (sheetOf sheet) k (g .0) (v .2)) .0 in
+      rw (g .2, record-said network sheet k small sheet-small (g .0) (g .1), cut-fragment network sheet k small (g .0) (g .1))
+      (paper-cut house1 (bounds (formOf network)) (networkOf network) (sheetOf sheet) k sound
+      ((cuts-fits house1 (networkOf network) (sheetOf sheet) (bounds (formOf network)) sound) .1 fits))
 
   pub one-fragment : OneFragment network sheet k
   one-fragment small n one =

@@ -16,14 +16,14 @@ use Rattle.networks.proofs.FragmentsAndWhole.{fragments-and-whole}
 use Rattle.networks.proofs.Passing.{pass-count}
 use Rattle.networks.proofs.Recutting.{first-then-second, second-then-first, third-given, apart-refused}
 use Rattle.reading.specs.Largest.{largestNetwork}
-use Rattle.reading.specs.Whole.{HouseNetwork, bounds, writeNetwork, networkOf, sheetOf, listOf, readNetwork}
+use Rattle.reading.specs.Whole.{HouseNetwork, bounds, writeNetwork, networkOf, sheetOf, listOf}
 use Rattle.judging.proofs.OnBytes.{judge-said}
 use Rattle.cutting.specs.Cutting.{cutNetwork}
-use Rattle.cutting.proofs.OnBytes.{cut-said, record-fine, record-read, record-small, record-form}
+use Rattle.cutting.proofs.OnBytes.{cut-said, record-fine, record-small}
 use Rattle.reading.proofs.Bridges.{read-network}
 use Rattle.promises.specs.Calls.{house1, Passes, cutInto, Roomy}
 use Rattle.promises.specs.Demand3.{FragmentsAndWhole, Refined, CommonRefinement, ApartRefused}
-use Rattle.promises.proofs.Cuts.{written, into-fragment, into-given, twice-said, given-asked, cuts-network, cuts-sheet, cuts-sound, cuts-said}
+use Rattle.promises.proofs.Cuts.{written, into-fragment, into-given, record-said, twice-said, given-asked, cuts-network, cuts-sheet, cuts-sound, cuts-said}
 use Rattle.records.specs.Network.{SoundRecord}
 use Rattle.layout.specs.declared.Form.{Form}
 use Rattle.entries.specs.Entries.{WellFormed}
@@ -41,10 +41,10 @@ module _ (network list : List ℕ) (n : SoundRecord network) (l : WellFormed lis
       rw all at e
 
 -- a buffer with room
-blank : Form → List ℕ
+pub blank : Form → List ℕ
 blank f = replicate (largestNetwork f) 0
 
-blank-roomy : (f : Form) → Roomy f (blank f)
+pub blank-roomy : (f : Form) → Roomy f (blank f)
 unfolding blank
 blank-roomy f = let e = length-replicate {A = ℕ} (largestNetwork f) 0 in omega arith
 
@@ -54,16 +54,16 @@ module _ (network sheet list : List ℕ) (small : Bytes network) (sheet-small : 
   W = writeNetwork (formOf network) G
 
   -- what its record says
-  record-said : networkOf W ≡ G
-  record-said = ap (λ (f : Form). readNetwork f W) (record-form network sheet k small G e sheet-small) ∙ record-read network sheet k small G e sheet-small
+  said : networkOf W ≡ G
+  said = record-said network sheet k small sheet-small G e
 
   -- a list passes on a fragment's record where it passes on the fragment
   record-passes : Passing house1 G (listOf list) → Passes W list
   record-passes h = said-passes W list (record-fine network sheet k small G e sheet-small) l
-      (subst (λ (H : HouseNetwork). Passing house1 H (listOf list)) (sym record-said) h)
+      (subst (λ (H : HouseNetwork). Passing house1 H (listOf list)) (sym said) h)
 
-  fragment-passes : Passes W list → Passing house1 G (listOf list)
-  fragment-passes p = subst (λ (H : HouseNetwork). Passing house1 H (listOf list)) record-said
+  pub fragment-passes : Passes W list → Passing house1 G (listOf list)
+  fragment-passes p = subst (λ (H : HouseNetwork). Passing house1 H (listOf list)) said
       (passes-said W list (record-fine network sheet k small G e sheet-small) l (record-small network sheet k small G e sheet-small) p)
 
 pub fragments-whole : (network sheet list : List ℕ) → FragmentsAndWhole network sheet list
@@ -72,7 +72,7 @@ fragments-whole network sheet list small sheet-small cuts l entered = (
       let w = theorem .0 (λ k G e. in-part h k G (said k ∙ e)) in
       (said-passes network list n l (w .0), w .1),
   λ h k out F asked roomy e.
-      let g = into-given network sheet k out small roomy F e in
+      let g = into-given network sheet k out F e in
       subst (λ (b : List ℕ). Passes b list) (sym (g .2)) (record-passes network sheet list small sheet-small l k (g .0) (g .1)
       (theorem .1 (passes-said network list n l small (h .0), h .1) k (g .0) (sym (said k) ∙ g .1))),
 )

@@ -3,5 +3,6 @@ pub mod Cuts
 pub mod Demand1
 pub mod Demand2
 pub mod Demand3
+pub mod Fragments
 pub mod SameAnswer
 pub mod Determined

@@ -26,7 +26,7 @@ use Rattle.reading.specs.Largest.{largestNetwork}
 use Rattle.reading.specs.Whole.{HouseNetwork, HouseList, networkOf, sheetOf, listOf}
 use Rattle.judging.specs.Judging.{judgeRecords}
 use Rattle.cutting.specs.Cutting.{cutRecords, cutBuffer}
-use Rattle.promises.specs.Calls.{house1, Passes, SheetCuts}
+use Rattle.promises.specs.Calls.{house1, Passes, cutInto}
 use Rattle.promises.specs.Demand1.{cuttingTable, fragmentRecord}
 
 module _ (network list : List ℕ) where
@@ -74,9 +74,10 @@ module _ (network sheet : List ℕ) (k : ℕ) where
       → SoundRecord F × Bytes F × (networkOf F ≡ fragment (networkOf network) (sheetOf sheet) k)
       × (length F ≤ length network) × (length F ≤ largestNetwork (formOf network))
 
-  -- The fragment is document 000's, point by point, less the edges that lead into inputs.
+  -- What a record that a cut leaves in a buffer says is document 000's fragment, point by point, less the edges that lead into inputs.
   abbrev pub PaperFragment : Type 0
-  PaperFragment = Bytes network → Bytes sheet → SheetCuts network sheet → AgreesWithPaper house1 (networkOf network) (sheetOf sheet) k
+  PaperFragment = Bytes network → Bytes sheet → (out left : List ℕ) → cutInto network sheet k out ≡ given left
+      → AgreesWithPaper house1 (networkOf network) (sheetOf sheet) k (networkOf left)
 
   -- With all own boxes in one fragment, it is the network's own bytes.
   abbrev pub OneFragment : Type 0

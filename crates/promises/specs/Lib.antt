@@ -3,6 +3,7 @@ pub mod Calls
 pub mod Demand1
 pub mod Demand2
 pub mod Demand3
+pub mod Fragments
 pub mod SameAnswer
 pub mod Determined
 pub mod BenchNetworks

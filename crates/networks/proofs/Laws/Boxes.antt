@@ -1,6 +1,6 @@
 -- The boxes of a network by kind and by id.
 --     found, there             for either kind: what the box with an id knows, and each box is the one with its id
---     own-found, own-there, input-there     the same for own boxes and for inputs
+--     own-found, input-found, own-there, input-there     the same for own boxes and for inputs
 --     own-rise                 own boxes stand by rising id
 --     owned, own-fact, own-any     from `owns` to the own box, to what every own box has, and to a test that some own box meets
 use mathlib.Core.Path.{_≡_, refl, sym, ap, _∙_, subst}
@@ -37,6 +37,9 @@ input-only (input c) a e = ap input (Option·some-injective _ _ e)
 module _ {R P D : Type 0} (N : Network R P D) where
   pub own-found : (Q : Own R D → Type 0) (i : ℕ) (b : Own R D) → All Q (ownBoxes N) → box N i ≡ some (own b) → Q b
   own-found = found N asOwn own (λ b. refl) own-only
+
+  pub input-found : (Q : Input R → Type 0) (i : ℕ) (a : Input R) → All Q (inputs N) → box N i ≡ some (input a) → Q a
+  input-found = found N asInput input (λ a. refl) input-only
 
   pub own-there : Rises boxId 0 (N .boxes) → All (λ (b : Own R D). box N (b .id) ≡ some (own b)) (ownBoxes N)
   own-there = there N asOwn own (λ b. refl) own-only

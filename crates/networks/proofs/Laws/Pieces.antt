@@ -2,17 +2,17 @@
 --     piece-id, pieces-rise, box-piece        its boxes
 --     own-boxes-fragment, own-kept, kept-own      its own boxes
 --     inputs-kept, kept-inputs                its inputs
---     sends-fragment, wires-into-fragment     its wires
+--     sends-fragment, edge-fragment, wires-into-fragment     its wires
 use mathlib.Core.Path.{_≡_, refl, sym, ap, _∙_, subst}
-use mathlib.Core.Bool.{Bool, true, false, cond, and-comm}
+use mathlib.Core.Bool.{Bool, true, false, cond, _&&_, and-comm}
 use mathlib.Core.Option.{Option, none, some, Option·map, bind, Option·none-ne-some, Option·some-injective}
 use mathlib.Core.List.{map, filterMap-filterMap}
 use Prim.Native.Nat.{ℕ}
 use lib.Dec.{eqb}
 use borrow.Author.Tests.{eqb-true}
-use Rattle.lists.proofs.Test.{and-absorb}
-use Rattle.lists.specs.All.{All}
-use Rattle.lists.proofs.All.{all-map, all-both, all-of, any-congr}
+use Rattle.lists.proofs.Test.{and-l, and-r, and-i, and-absorb, same-test}
+use Rattle.lists.specs.All.{All, any}
+use Rattle.lists.proofs.All.{all-map, all-both, all-of, any-congr, any-mono, any-here, any-found}
 use Rattle.lists.specs.Filter.{filter}
 use Rattle.lists.proofs.Filter.{filter-filter, filter-congr, any-filter, all-filter, filtered-all, all-mapped, mapped-all, map-filter, filterMap-congr, all-filterMap, filterMap-all}
 use Rattle.lists.specs.Sorted.{Rises}
@@ -21,6 +21,7 @@ use Rattle.networks.specs.Network.{Own, Input, Box, own, input, Wire, Ne
 use Rattle.networks.specs.Sound.{sends}
 use Rattle.networks.specs.Sheets.{Sheet, number, note}
 use Rattle.networks.specs.Cut.{feeds, promisingOwn, assuming, piece, fragmentOf}
+use Rattle.networks.specs.Paper.{between, E}
 
 module _ {R P D : Type 0} (N : Network R P D) (S : Sheet R) (κ : ℕ → Bool) where
   -- what is kept of a box has its id
@@ -130,6 +131,25 @@ module _ {R P D : Type 0} (N : Network R P D) (S : Sheet R) (κ : ℕ → Bool) 
   sends-fragment i =
       any-filter (λ (w : Wire). κ (number S (w .to))) (λ (w : Wire). eqb (w .from) i) (N .wires)
       ∙ any-congr _ _ (N .wires) (all-of (N .wires) (λ w. and-comm (κ (number S (w .to))) (eqb (w .from) i)))
+
+  -- edges are kept by their to end
+  pub edge-fragment : (u v : ℕ) → E (fragmentOf N S κ) u v ≡ κ (number S v) && E N u v
+  unfolding fragmentOf
+  edge-fragment u v = any-filter (λ (w : Wire). κ (number S (w .to))) (between u v) (N .wires) ∙ same-test _ _ forth back
+    where
+      to : (w : Wire) → between u v w ≡ true → κ (number S (w .to)) ≡ κ (number S v)
+      to w h = ap (λ (j : ℕ). κ (number S j)) (eqb-true (w .to) v (and-r (eqb (w .from) u) (eqb (w .to) v) h))
+
+      forth : any (λ (w : Wire). κ (number S (w .to)) && between u v w) (N .wires) ≡ true → κ (number S v) && E N u v ≡ true
+      forth e =
+          let f = any-found (λ (w : Wire). κ (number S (w .to)) && between u v w) (N .wires) (any-here (N .wires)) e in
+          let w = f .0 in
+          let j : between u v w ≡ true = and-r (κ (number S (w .to))) (between u v w) (f .2) in
+          and-i _ _ (sym (to w j) ∙ and-l (κ (number S (w .to))) (between u v w) (f .2)) (f .1 (between u v) j)
+
+      back : κ (number S v) && E N u v ≡ true → any (λ (w : Wire). κ (number S (w .to)) && between u v w) (N .wires) ≡ true
+      back e = any-mono _ _ (N .wires) (all-of (N .wires) (λ w h. and-i _ _ (to w h ∙ and-l (κ (number S v)) (E N u v) e) h))
+          (and-r (κ (number S v)) (E N u v) e)
 
   -- an own box keeps its wires
   pub wires-into-fragment : (i : ℕ) → κ (number S i) ≡ true → wiresInto (fragmentOf N S κ) i ≡ wiresInto N i

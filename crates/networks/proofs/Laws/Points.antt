@@ -1,30 +1,45 @@
 -- The parts of a fragment at every id, beside those of definition IV.3 of document 000.
 --     by-box                    an id has no box, an input or an own box
 --     into-feeds .. cut-feeds   the paper's two ways into a fragment
---     at-every                  own boxes, inputs, outputs, init, ass and guar at every id
---     edge-at                   edges
+--     at-every                  own boxes, inputs, outputs, init, ass, guar and demands at every id
+--     there, edge-at, trans-at  all boxes; edges, and what is carried over them
 use mathlib.Core.Path.{_≡_, refl, sym, ap, ap₂, _∙_, subst}
 use mathlib.Core.Bool.{Bool, true, false, cond, not, _&&_, _||_, or-false, false≢true, true≢false}
-use mathlib.Core.Option.{Option, none, some, bind}
+use mathlib.Core.List.{List}
+use mathlib.Core.Option.{Option, none, some, Option·map, bind}
 use Prim.Native.Nat.{ℕ}
 use lib.Dec.{eqb}
 use borrow.Author.Tests.{eqb-true, eqb-false, eq-eqb, ne-eqb, not-true}
 use Rattle.lists.proofs.Test.{and-l, and-r, and-i, or-i-l, same-test}
 use Rattle.lists.proofs.All.{all-map, all-of, any-congr, any-mono, any-found, false-any}
 use Rattle.lists.specs.All.{any}
-use Rattle.lists.proofs.Filter.{any-filter}
+use Rattle.lists.specs.Sorted.{find}
 use Rattle.lists.proofs.Sorted.{find-key}
-use Rattle.networks.specs.Network.{Own, Input, Box, own, input, Wire, Network, boxId, isBox, isOwnBox, box, hasBox, owns}
+use Rattle.networks.specs.Algebra.{Algebra}
+use Rattle.networks.specs.Network.{Own, Input, Box, own, input, Wire, Network, NetworkOver, boxId, isBox, isOwnBox, box, hasBox, owns}
 use Rattle.networks.specs.Sound.{Joined}
 use Rattle.networks.specs.Sheets.{Sheet, number, note}
 use Rattle.lists.specs.Answer.{isSome}
 use Rattle.networks.specs.Lowest.{Entered}
+use Rattle.networks.specs.Solution.{trans}
 use Rattle.networks.specs.Cut.{only, promised, assuming, isCut, leaves, feeds, promisingOwn, piece, fragmentOf, fragment}
-use Rattle.networks.specs.Paper.{assumedOf, init, ass, guar, V-in, V-out, E, W, wiredInto, cutWireInto, V-in-k, V-out-k, V-k, E-k, ass-k, guar-k}
+use Rattle.networks.specs.Paper.{assumedOf, init, ass, guar, V-in, V-out, E, demanded, transAt, W, wiredInto, cutWireInto, V-in-k, V-out-k, V-k, E-k, ass-k, guar-k}
 use Rattle.networks.proofs.Laws.Boxes.{own-found}
-use Rattle.networks.proofs.Laws.Pieces.{box-piece}
+use Rattle.networks.proofs.Laws.Pieces.{box-piece, edge-fragment, wires-into-fragment}
 use Rattle.lists.proofs.Answer.{isSome-true}
 use Rattle.networks.proofs.Laws.Formed.{Formed, fragment-formed}
+
+-- a box is an own one or an input
+module _ {R D : Type 0} where
+  box-either : (o : Option (Box R D)) → isBox o ≡ isOwnBox o || isSome (assumedOf o)
+  box-either none = refl
+  box-either (some (own b)) = refl
+  box-either (some (input a)) = refl
+
+  pub own-not-input : (o : Option (Box R D)) → isOwnBox o ≡ true → isSome (assumedOf o) ≡ false
+  own-not-input none t = refl
+  own-not-input (some (own b)) t = refl
+  own-not-input (some (input a)) t = absurd (false≢true t)
 
 -- what holds at every id: it has no box, an input or an own box
 by-box : {R P D : Type 0} (N : Network R P D) (Q : ℕ → Type 0)
@@ -43,11 +58,11 @@ module _ {R P D : Type 0} (N : Network R P D) (S : Sheet R) (k : ℕ) (formed : 
   F = fragment N S k
 
   -- every wire leads to an own box
-  into-feeds : (u : ℕ) → wiredInto N S k u ≡ feeds N S (only k) u
+  pub into-feeds : (u : ℕ) → wiredInto N S k u ≡ feeds N S (only k) u
   unfolding feeds
   into-feeds u = any-congr _ _ (N .wires) (all-map (N .wires) (λ w h. rw (h .to-own) refl) (formed .joined))
 
-  no-cut-into : (u : ℕ) → owns N u ≡ false → cutWireInto N S k u ≡ false
+  pub no-cut-into : (u : ℕ) → owns N u ≡ false → cutWireInto N S k u ≡ false
   no-cut-into u f = false-any _ (N .wires) (all-map (N .wires) at (formed .joined))
     where
       at : (w : Wire) → Joined N w → eqb (w .from) u && (isCut N S w && W N S k (w .to)) ≡ false
@@ -58,7 +73,7 @@ module _ {R P D : Type 0} (N : Network R P D) (S : Sheet R) (k : ℕ) (formed : 
           go false q = refl
           go true q = rw (eqb-true (w .from) u q, f) refl
 
-  cut-feeds : (u : ℕ) → owns N u ≡ true → cutWireInto N S k u ≡ not (only k (number S u)) && feeds N S (only k) u
+  pub cut-feeds : (u : ℕ) → owns N u ≡ true → cutWireInto N S k u ≡ not (only k (number S u)) && feeds N S (only k) u
   unfolding feeds
   cut-feeds u t = same-test _ _ forth back
     where
@@ -107,6 +122,7 @@ module _ {R P D : Type 0} (N : Network R P D) (S : Sheet R) (k : ℕ) (formed : 
     pub init-at : W N S k u ≡ true → init F u ≡ init N u
     pub ass-at : V-in-k N S k u ≡ true → ass F u ≡ ass-k N S k u
     pub guar-at : V-out-k N S k u ≡ true → guar F u ≡ guar-k N S k u
+    pub demand-at : W N S k u ≡ true → demanded F u ≡ demanded N u
 
   at-none : (i : ℕ) → box N i ≡ none → At i
   unfolding bind
@@ -120,6 +136,7 @@ module _ {R P D : Type 0} (N : Network R P D) (S : Sheet R) (k : ℕ) (formed : 
         init-at = λ t. rw (e, q) refl;
         ass-at = λ t. absurd (false≢true (rw (q, c) at t));
         guar-at = λ t. absurd (false≢true (rw q at t));
+        demand-at = λ t. rw (e, q) refl;
       }
 
   at-input : (a : Input R) → box N (a .id) ≡ some (input a) → At (a .id)
@@ -137,6 +154,7 @@ module _ {R P D : Type 0} (N : Network R P D) (S : Sheet R) (k : ℕ) (formed : 
             init-at = λ t. rw (e, q) refl;
             ass-at = λ t. rw (e, q) refl;
             guar-at = λ t. absurd (false≢true (rw q at t));
+            demand-at = λ t. rw (e, q) refl;
           }
       go false f =
           let e : box F (a .id) ≡ none = rw (box-piece N S (only k) (formed .rise) (a .id), q, f) refl in
@@ -149,6 +167,7 @@ module _ {R P D : Type 0} (N : Network R P D) (S : Sheet R) (k : ℕ) (formed : 
             init-at = λ t. rw (e, q) refl;
             ass-at = λ t. absurd (false≢true (rw (q, i, c) at t));
             guar-at = λ t. absurd (false≢true (rw q at t));
+            demand-at = λ t. rw (e, q) refl;
           }
 
   -- promises in the fragment, where there is a note
@@ -181,6 +200,7 @@ module _ {R P D : Type 0} (N : Network R P D) (S : Sheet R) (k : ℕ) (formed : 
             init-at = λ u. rw (e, q) refl;
             ass-at = λ u. absurd (false≢true (rw (q, c) at u));
             guar-at = λ u. rw (e, q, n .1) (promised-is (b .promise) (leaves N S (b .id)) (n .0) (rw (q, s) at u));
+            demand-at = λ u. rw (e, q) refl;
           }
       go false s true f n =
           let e : box F (b .id) ≡ some (assuming b (n .0)) = piece-is ∙ rw (s, f, n .1) refl in
@@ -192,6 +212,7 @@ module _ {R P D : Type 0} (N : Network R P D) (S : Sheet R) (k : ℕ) (formed : 
             init-at = λ u. absurd (false≢true (rw (q, s) at u));
             ass-at = λ u. rw (e, q, n .1) refl;
             guar-at = λ u. absurd (false≢true (rw (q, s) at u));
+            demand-at = λ u. absurd (false≢true (rw (q, s) at u));
           }
       go false s false f n =
           let e : box F (b .id) ≡ none = piece-is ∙ rw (s, f) refl in
@@ -203,29 +224,16 @@ module _ {R P D : Type 0} (N : Network R P D) (S : Sheet R) (k : ℕ) (formed : 
             init-at = λ u. absurd (false≢true (rw (q, s) at u));
             ass-at = λ u. absurd (false≢true (rw (q, c) at u));
             guar-at = λ u. absurd (false≢true (rw (q, s) at u));
+            demand-at = λ u. absurd (false≢true (rw (q, s) at u));
           }
 
   pub at-every : (u : ℕ) → At u
   at-every = by-box N At at-none at-input at-own
 
-  -- edges: the to end of a kept wire is no input, and its from end is one of the fragment's boxes
-  kept-edge : (u v : ℕ) → E F u v ≡ any (λ (w : Wire). only k (number S (w .to)) && (eqb (w .from) u && eqb (w .to) v)) (N .wires)
-  unfolding fragmentOf
-  kept-edge u v = any-filter (λ (w : Wire). only k (number S (w .to))) (λ (w : Wire). eqb (w .from) u && eqb (w .to) v) (N .wires)
-
-  box-either : (o : Option (Box R D)) → isBox o ≡ isOwnBox o || isSome (assumedOf o)
-  box-either none = refl
-  box-either (some (own b)) = refl
-  box-either (some (input a)) = refl
-
-  own-not-input : (o : Option (Box R D)) → isOwnBox o ≡ true → isSome (assumedOf o) ≡ false
-  own-not-input none t = refl
-  own-not-input (some (own b)) t = refl
-  own-not-input (some (input a)) t = absurd (false≢true t)
-
-  there : (u : ℕ) → hasBox F u ≡ V-k N S k u
+  pub there : (u : ℕ) → hasBox F u ≡ V-k N S k u
   there u = box-either (box F u) ∙ ap₂ _||_ (at-every u .own-at) (at-every u .input-at)
 
+  -- the to end of a kept edge is no input, and its from end is one of the fragment's boxes
   pub edge-at : (u v : ℕ) → E F u v ≡ E-k N S k u v && not (V-in-k N S k v)
   edge-at u v = same-test _ _ forth back
     where
@@ -238,20 +246,24 @@ module _ {R P D : Type 0} (N : Network R P D) (S : Sheet R) (k : ℕ) (formed : 
           let o : owns F v ≡ true = ap (owns F) (sym q) ∙ f .1 .to-own in
           and-i _ _
           (and-i _ _ (sym (there u) ∙ ap (hasBox F) (sym p) ∙ f .1 .from-there)
-          (and-i _ _ (or-i-l _ _ (sym (at-every v .own-at) ∙ o))
-          (any-mono _ _ (N .wires) (all-of (N .wires) (λ x h. and-r (only k (number S (x .to))) _ h)) (sym (kept-edge u v) ∙ e))))
+          (and-i _ _ (or-i-l _ _ (sym (at-every v .own-at) ∙ o)) (and-r (only k (number S v)) (E N u v) (sym (edge-fragment N S (only k) u v) ∙ e))))
           (ap not (sym (at-every v .input-at) ∙ own-not-input (box F v) o))
 
       back : E-k N S k u v && not (V-in-k N S k v) ≡ true → E F u v ≡ true
       back e =
           let b : E-k N S k u v ≡ true = and-l (E-k N S k u v) (not (V-in-k N S k v)) e in
           let r = and-r (V-k N S k u) (V-k N S k v && E N u v) b in
-          let m : only k (number S v) ≡ true = inside (V-in-k N S k v)
-          (not-true (V-in-k N S k v) (and-r (E-k N S k u v) (not (V-in-k N S k v)) e)) (and-l (V-k N S k v) (E N u v) r) in
-          kept-edge u v ∙ any-mono _ _ (N .wires) (all-of (N .wires)
-          (λ x h. and-i _ _ (ap (λ (j : ℕ). only k (number S j)) (eqb-true (x .to) v (and-r (eqb (x .from) u) (eqb (x .to) v) h)) ∙ m) h))
+          edge-fragment N S (only k) u v ∙ and-i _ _ (inside (V-in-k N S k v) (not-true (V-in-k N S k v) (and-r (E-k N S k u v) (not (V-in-k N S k v)) e))
+          (and-l (V-k N S k v) (E N u v) r))
           (and-r (V-k N S k v) (E N u v) r)
         where
           inside : (i : Bool) → i ≡ false → W N S k v || i ≡ true → only k (number S v) ≡ true
           inside true z t = absurd (true≢false z)
           inside false z t = and-r (owns N v) (only k (number S v)) (sym (or-false (W N S k v)) ∙ t)
+
+-- a box of the fragment has its wires, with their policies
+pub trans-at : (𝓐 : Algebra) (N : NetworkOver 𝓐) (S : Sheet (𝓐 .Route)) (k u v : ℕ) → E (fragment N S k) u v ≡ true
+    → (r : 𝓐 .Route) → transAt 𝓐 (fragment N S k) u v r ≡ transAt 𝓐 N u v r
+unfolding fragmentOf
+trans-at 𝓐 N S k u v e r = ap (λ (ws : List Wire). Option·map (λ (w : Wire). trans 𝓐 N w r) (find (λ (w : Wire). w .from) u ws))
+    (wires-into-fragment N S (only k) v (and-l (only k (number S v)) (E N u v) (sym (edge-fragment N S (only k) u v) ∙ e)))

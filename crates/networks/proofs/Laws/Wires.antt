@@ -1,10 +1,24 @@
--- Wires stand by their to end, then by their from end: what the key of a wire says where ids are ids.
-use mathlib.Core.Path.{_≡_}
+-- Wires stand by their to end, then by their from end.
+--     wire-order                 what the key of a wire says where ids are ids
+--     edge-there, edge-wire      there is a wire from u to v exactly where uv is an edge; of rising wires each is the one between its ends
+use mathlib.Core.Path.{_≡_, refl, _∙_}
+use mathlib.Core.Bool.{Bool, true, false, cond, _||_, and-comm}
+use mathlib.Core.List.{List, [], _∷_}
 use mathlib.Core.Logic.{_↔_, _⊎_, inl, inr, ⊎-elim}
-use Prim.Native.Nat.{_<_, _≤_}
+use mathlib.Core.Option.{some}
+use Prim.Native.Nat.{ℕ, suc, _-_, _*_, _<_, _≤_}
 use native.Mathlib.Omega.{arith}
+use lib.Dec.{eqb}
+use borrow.Author.Tests.{eqb-true, eq-eqb}
+use Rattle.lists.specs.All.{All, any}
+use Rattle.lists.proofs.All.{all-map, all-of, all-each, any-congr}
+use Rattle.lists.specs.Answer.{isSome}
+use Rattle.lists.proofs.Filter.{any-filter, all-filter, filtered-all}
+use Rattle.lists.specs.Sorted.{find, Rises}
+use Rattle.lists.proofs.Sorted.{rises-weak, rises-filter, find-self}
 use Rattle.lists.proofs.Test.{le-or-lt}
-use Rattle.networks.specs.Network.{Wire, ids, wireKey}
+use Rattle.networks.specs.Network.{Wire, Network, ids, wireKey, wiresInto}
+use Rattle.networks.specs.Paper.{E, edge}
 
 pub wire-order : (w v : Wire) → w .from < ids → v .from < ids → (wireKey w < wireKey v) ↔ ((w .to < v .to) ⊎ ((w .to ≡ v .to) × (w .from < v .from)))
 wire-order w v l m = (
@@ -15,3 +29,41 @@ wire-order w v l m = (
   where
     forth : wireKey w < wireKey v → (w .to < v .to) ⊎ ((w .to ≡ v .to) × (w .from < v .from))
     forth h = ⊎-elim (λ (k : v .to ≤ w .to). inr (omega arith, omega arith)) (λ (k : w .to < v .to). inl k) (le-or-lt (v .to) (w .to))
+
+-- whether an element has a key
+found-some : {A : Type 0} (key : A → ℕ) (i : ℕ) (xs : List A) → isSome (find key i xs) ≡ any (λ (x : A). eqb (key x) i) xs
+found-some key i [] = refl
+found-some {A} key i (x ∷ xs) = go (eqb (key x) i) (found-some key i xs)
+  where
+    go : (t : Bool) → isSome (find key i xs) ≡ any (λ (y : A). eqb (key y) i) xs
+        → isSome (cond t (some x) (find key i xs)) ≡ t || any (λ (y : A). eqb (key y) i) xs
+    go true q = refl
+    go false q = q
+
+-- wires with one to end rise by their from ends
+from-rise : (v low : ℕ) (ws : List Wire) → All (λ (w : Wire). w .to ≡ v) ws → Rises wireKey low ws → Rises (λ (w : Wire). w .from) (low - v * ids) ws
+from-rise v low [] h r = tt
+from-rise v low (w ∷ ws) h r =
+    let e : w .to ≡ v = h .0 in
+    let l : low ≤ wireKey w = r .0 in (
+      omega arith,
+      rises-weak (λ (x : Wire). x .from) (suc (w .from)) (suc (wireKey w) - v * ids) ws (omega arith)
+          (from-rise v (suc (wireKey w)) ws (h .1) (r .1)),
+    )
+
+module _ {R P D : Type 0} (N : Network R P D) where
+  pub edge-there : (u v : ℕ) → isSome (edge N u v) ≡ E N u v
+  edge-there u v = found-some (λ (w : Wire). w .from) u (wiresInto N v)
+      ∙ any-filter (λ (w : Wire). eqb (w .to) v) (λ (w : Wire). eqb (w .from) u) (N .wires)
+      ∙ any-congr _ _ (N .wires) (all-of (N .wires) (λ w. and-comm (eqb (w .to) v) (eqb (w .from) u)))
+
+  pub edge-wire : Rises wireKey 0 (N .wires) → All (λ (w : Wire). edge N (w .from) (w .to) ≡ some w) (N .wires)
+  edge-wire rise = all-map (N .wires) (λ w f. f (w .to) (eq-eqb (w .to) (w .to) refl))
+      (all-each (λ (v : ℕ) (w : Wire). eqb (w .to) v ≡ true → edge N (w .from) v ≡ some w) (N .wires)
+      (λ v. filtered-all (λ (w : Wire). edge N (w .from) v ≡ some w) (λ (w : Wire). eqb (w .to) v) (N .wires)
+      (find-self (λ (w : Wire). w .from) 0 (wiresInto N v) (rising v))))
+    where
+      rising : (v : ℕ) → Rises (λ (w : Wire). w .from) 0 (wiresInto N v)
+      rising v = rises-weak (λ (w : Wire). w .from) 0 (0 - v * ids) (wiresInto N v) (omega arith) (from-rise v 0 (wiresInto N v)
+          (all-filter (λ (w : Wire). w .to ≡ v) (λ (w : Wire). eqb (w .to) v) (N .wires) (all-of (N .wires) (λ w e. eqb-true (w .to) v e)))
+          (rises-filter wireKey (λ (w : Wire). eqb (w .to) v) 0 (N .wires) rise))
