@@ -10,7 +10,7 @@ use lib.Dec.{leb}
 use lib.ListN.{length, getD}
 use mir.Syntax.{w64}
 use mir.Val.{Fits}
-use borrow.Author.Tests.{ne-eqb, not-true, not-false}
+use borrow.Author.Tests.{ne-eqb, le-leb, lt-leb, not-true, not-false}
 use Rattle.lists.specs.First.{firstBad}
 use Rattle.lists.proofs.Walk.{Climb, climb-start, climb-next, climb-low, climb-ill, climb-end}
 use Rattle.numbers.specs.BigEndian.{u16At}
@@ -22,9 +22,13 @@ use Rattle.layout.specs.Layout.{entryOffset}
 use Rattle.layout.specs.Form.{Usable}
 
 module _ (f : Form) (lead : ℕ) (b : List ℕ) (o : ℕ) where
-  pub fragment-of-sheet : lead ≡ 3 → leb (getD b (o + 2) 0) 63 ≡ fragmentFormed f lead b o
+  pub fragment-within : lead ≡ 3 → getD b (o + 2) 0 < 64 → true ≡ fragmentFormed f lead b o
   unfolding fragmentFormed
-  fragment-of-sheet e = rw e
+  fragment-within e h = rw (e, le-leb (getD b (o + 2) 0) 63 (omega arith))
+
+  pub fragment-over : lead ≡ 3 → 64 ≤ getD b (o + 2) 0 → false ≡ fragmentFormed f lead b o
+  unfolding fragmentFormed
+  fragment-over e h = rw (e, lt-leb (getD b (o + 2) 0) 63 (omega arith))
 
   pub fragment-of-list : (lead ≡ 3 → ⊥) → true ≡ fragmentFormed f lead b o
   unfolding fragmentFormed
@@ -39,7 +43,7 @@ module _ (f : Form) (lead : ℕ) (b : List ℕ) (o : ℕ) where
     unfolding entryFormed
     entry-route u h q = rw (← p, not-false t h) q
 
-pub ruleset fragments = (fragment-of-sheet, fragment-of-list)
+pub ruleset fragments = (fragment-within, fragment-over, fragment-of-list)
 
 pub ruleset entry-forms = (entry-fragment, entry-route)
 

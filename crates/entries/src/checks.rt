@@ -27,7 +27,10 @@ fn fragment_formed(form: Form, lead: usize, b: &[u8], at: usize) -> bool
     ensures { λ r. ⌜ r ≡ fragmentFormed form lead (now (b .entry)) at ⌝ }
 {
     match lead {
-        3 => b[at + 2] <= 63,
+        3 => match b[at + 2] {
+            0..=63 => true,
+            _ => false,
+        },
         _ => true,
     }
 }

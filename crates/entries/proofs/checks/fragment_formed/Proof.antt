@@ -4,11 +4,11 @@ use borrow.Author.Needs.{needs}
 use Rattle.entries.proofs.checks.fragment_formed.Statement.{statement}
 use Rattle.entries.proofs.checks.fragment_formed.Tie as tie
 
-add-result : tie.Need-add-result
-add-result c = search needs
+add-if1 : tie.Need-add-if1
+add-if1 c = search (needs, fragments)
 
-shared-slice-read-result : tie.Need-shared-slice-read-result
-shared-slice-read-result c = search needs
+shared-slice-read-if1 : tie.Need-shared-slice-read-if1
+shared-slice-read-if1 c = search (needs, fragments)
 
 returns : tie.Need-returns
 returns c = search fragments
@@ -16,5 +16,9 @@ returns c = search fragments
 returns-2 : tie.Need-returns-2
 returns-2 c = search fragments
 
+returns-3 : tie.Need-returns-3
+returns-3 c = search (needs, fragments)
+
 pub fragment-formed-spec : {M : Type 1} → statement M
-fragment-formed-spec = tie.close (tie.spec add-result shared-slice-read-result returns returns-2)
+fragment-formed-spec =
+    tie.close (tie.spec add-if1 shared-slice-read-if1 returns returns-2 returns-3)
