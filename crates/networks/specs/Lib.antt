@@ -11,3 +11,4 @@ pub mod Cut
 pub mod Paper
 pub mod Covering
 pub mod Counts
+pub mod Silence
