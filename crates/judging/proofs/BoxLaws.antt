@@ -24,6 +24,7 @@ use Rattle.layout.proofs.Places.{node-fields-room}
 use Rattle.layout.specs.declared.Form.{Form}
 use Rattle.reading.specs.Parts.{promiseAt, demandAt}
 use Rattle.reading.specs.Whole.{readList}
+use Rattle.reading.proofs.Said.{demand-row}
 use Rattle.judging.specs.Answers.{unmetOf}
 use Rattle.judging.specs.OwnBox.{ownBoxAt, faultOf}
 use Rattle.routes.specs.Carry.{highest}
@@ -33,17 +34,9 @@ use Rattle.judging.proofs.PartLaws.{row-long, row-route}
 use Rattle.judging.proofs.PreparedLaws.{standing-listed, standing-room}
 use Rattle.judging.proofs.Said.{mapping-own}
 
--- the demand of a box by its own offset
-demand-same : (w : ℕ) (b : List ℕ) (o : ℕ) → demandOf w b o ≡ demandAt b (o + 4 + w + w)
-unfolding demandOf demandAt
-demand-same w b o =
-    let five : o + 5 + w + w ≡ o + 4 + w + w + 1 = omega arith in
-    let seven : o + 7 + w + w ≡ o + 4 + w + w + 3 = omega arith in
-    rw (five, seven)
-
 module _ (w : ℕ) (b : List ℕ) (o : ℕ) (held : Route) (d : Demand) (t : Bool) (e : d ≡ demandOf w b o) (h : t ≡ meets d held) where
   demanded : t ≡ meets (demandAt b (o + 4 + w + w)) held
-  demanded = h ∙ ap (λ (x : Demand). meets x held) (e ∙ demand-same w b o)
+  demanded = h ∙ ap (λ (x : Demand). meets x held) (e ∙ demand-row w b o)
 
   pub demand-met : t ≡ true → none ≡ unmetOf (demandAt b (o + 4 + w + w)) held
   unfolding unmetOf

@@ -152,6 +152,30 @@ module _ {A B : Type 0} where
       go none q k r = (λ y e. absurd (Option·none-ne-some _ (sym q ∙ e)), r k)
       go (some z) q k r = (λ y e. subst P (Option·some-injective _ _ (sym q ∙ e)) (k .0), r (k .1))
 
+-- how many images there are that meet a test, and how many at all
+module _ {A B : Type 0} where
+  pub length-kept : (p : B → Bool) (f : A → Option B) (xs : List A) → length (filter p (filterMap f xs)) ≡ length (filter (λ (x : A). holds p (f x)) xs)
+  unfolding filterMap
+  length-kept p f [] = refl
+  length-kept p f (x ∷ xs) = go (f x) (length-kept p f xs)
+    where
+      same : (t : Bool) (y : B) (ys : List B) (zs : List A) → length ys ≡ length zs → length (cond t (y ∷ ys) ys) ≡ length (cond t (x ∷ zs) zs)
+      same true y ys zs e = ap suc e
+      same false y ys zs e = e
+
+      go : (o : Option B) → length (filter p (filterMap f xs)) ≡ length (filter (λ (z : A). holds p (f z)) xs)
+          → length (filter p (Option·elim o (filterMap f xs) (λ y. y ∷ filterMap f xs)))
+          ≡ length (cond (holds p o) (x ∷ filter (λ (z : A). holds p (f z)) xs) (filter (λ (z : A). holds p (f z)) xs))
+      go none e = e
+      go (some y) e = same (p y) y (filter p (filterMap f xs)) (filter (λ (z : A). holds p (f z)) xs) e
+
+  pub length-images : (f : A → Option B) (xs : List A) → length (filterMap f xs) ≡ length (filter (λ (x : A). holds (λ (y : B). true) (f x)) xs)
+  length-images f xs = ap length (sym (filter-all (λ (y : B). true) (filterMap f xs) (all (filterMap f xs)))) ∙ length-kept (λ (y : B). true) f xs
+    where
+      all : (ys : List B) → All (λ (y : B). true ≡ true) ys
+      all [] = tt
+      all (y ∷ ys) = (refl, all ys)
+
 -- a partial function that gives back every element
 pub filterMap-self : {A : Type 0} (f : A → Option A) (xs : List A) → All (λ (x : A). f x ≡ some x) xs → filterMap f xs ≡ xs
 filterMap-self f xs h = filterMap-congr f some xs h ∙ filterMap-some xs

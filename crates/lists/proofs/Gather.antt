@@ -2,6 +2,7 @@
 --     joined-..                         runs of bytes one behind another
 --     count-..                          how many places below n meet a test
 --     after-..                          a table after some steps
+--     filter-rows                       how many rows meet a test
 --     gathered-..                       what is kept at places: its runs, its number, and what a partial function keeps of rows
 use mathlib.Core.Path.{_≡_, refl, sym, ap, ap₂, _∙_}
 use mathlib.Core.Bool.{Bool, true, false, cond}
@@ -14,7 +15,7 @@ use native.Mathlib.Numerals.{add-one}
 use native.Mathlib.Omega.{arith}
 use lib.ListN.{length, getD, length-append, set, length-set}
 use lib.Seq.{getD-set-same, getD-set-other}
-use Rattle.lists.specs.Filter.{holds}
+use Rattle.lists.specs.Filter.{filter, holds}
 use Rattle.lists.specs.Rows.{rows, laidRows}
 use Rattle.lists.specs.Stride.{at}
 use Rattle.lists.proofs.Stride.{at-zero, at-shift}
@@ -141,3 +142,18 @@ gathered-rows keep value width offset zero = refl
 gathered-rows {A} {B} keep value width offset (suc n) = ap₂ (λ (o : Option B) (ys : List B). Option·elim o ys (λ x. x ∷ ys))
     (ap (λ (o : ℕ). keep (value o)) (sym (at-zero offset width)))
     (gathered-rows keep value width (offset + width) n ∙ gathered-ext _ _ n (λ k l. ap (λ (o : ℕ). keep (value o)) (sym (at-shift offset width k))))
+
+-- how many rows meet a test
+pub filter-rows : {A : Type 0} (p : A → Bool) (value : ℕ → A) (width offset n : ℕ)
+    → length (filter p (rows value width offset n)) ≡ count (λ i. p (value (at offset width i))) n
+unfolding count
+filter-rows p value width offset zero = refl
+filter-rows {A} p value width offset (suc n) =
+    first (p (value offset)) (value offset) (filter p (rows value width (offset + width) n))
+    ∙ ap₂ (λ (t : Bool) (c : ℕ). cond t 1 0 + c) (ap (λ (o : ℕ). p (value o)) (sym (at-zero offset width)))
+    (filter-rows p value width (offset + width) n ∙ count-ext _ _ n (λ k l. ap (λ (o : ℕ). p (value o)) (sym (at-shift offset width k))))
+    ∙ sym (count-front (λ i. p (value (at offset width i))) n)
+  where
+    first : (t : Bool) (x : A) (xs : List A) → length (cond t (x ∷ xs) xs) ≡ cond t 1 0 + length xs
+    first true x xs = omega arith
+    first false x xs = omega arith

@@ -26,7 +26,8 @@ use Rattle.marking.specs.Marks.{Leaving}
 use Rattle.marking.specs.Pieces.{noteOffset, noteIn}
 use Rattle.records.specs.Entered.{EntryRows}
 use Rattle.marking.specs.Tables.{unclashed}
-use Rattle.marking.proofs.Said.{ownIn, meets-own, meets-input}
+use Rattle.reading.specs.Rows.{ownIn}
+use Rattle.marking.proofs.Said.{meets-own, meets-input}
 use Rattle.routes.specs.Carry.{highest}
 use Rattle.marking.proofs.RowLaws.{index-small, node-there, promise-there, noted}
 use Rattle.layout.specs.Form.{sheetLead}

@@ -30,7 +30,8 @@ use Rattle.marking.specs.Marks.{Leaving, Feeding}
 use Rattle.marking.specs.Pieces.{noteIn, pieceIn, keeps, withPromise, assumedBox, pieceCode, withPiece, pieceOf, Piece, Pieces}
 use Rattle.records.specs.Entered.{EntryRows}
 use Rattle.marking.specs.Tables.{boxIn, rowFragment, Numbered, RowTables}
-use Rattle.marking.proofs.Said.{ownIn, own-box, input-box}
+use Rattle.reading.specs.Rows.{ownIn}
+use Rattle.marking.proofs.Said.{own-box, input-box}
 use Rattle.marking.proofs.RowLaws.{node-there, noted, own-piece, other-piece}
 use Rattle.marking.proofs.FragmentLaws.{row-small}
 use Rattle.marking.proofs.ClashLaws.{mark-zero, mark-one, promise-none, promise-some}

@@ -25,7 +25,8 @@ use Rattle.reading.specs.Whole.{HouseNetwork, HouseSheet, readNetwork, readShee
 use Rattle.marking.specs.Pieces.{noteOffset, noteIn, pieceIn}
 use Rattle.records.specs.Checked.{CheckedNetwork, CheckedEntries}
 use Rattle.records.specs.Entered.{EntryRows}
-use Rattle.marking.proofs.Said.{ownIn, own-box, note-there}
+use Rattle.reading.specs.Rows.{ownIn}
+use Rattle.marking.proofs.Said.{own-box, note-there}
 
 module _ (f : Form) (network : List ℕ) (c : CheckedNetwork f network) (i : ℕ) (l : i < nodeCount network) where
   pub index-small : i < 1024

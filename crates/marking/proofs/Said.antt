@@ -1,5 +1,5 @@
 -- What the two records say of the node in a row: its box, its entry in the sheet, its fragment number and its note.
---     ownIn, own-box, input-box, meets-own, meets-input     the box in a row
+--     own-box, input-box, meets-own, meets-input     the box in a row
 --     entry-le, note-there, note-none, number-there         the sheet's entry for an id
 use Prim.Native.Nat.{ℕ, _+_, _≤_, _<_}
 use mathlib.Core.Bool.{Bool, true, false}
@@ -22,36 +22,26 @@ use Rattle.entries.specs.Entries.{entryId, entryOf}
 use Rattle.layout.specs.Form.{entryWidth, sheetLead}
 use Rattle.nodes.specs.Node.{nodeId, isOwn}
 use Rattle.layout.specs.declared.Form.{Form}
-use Rattle.reading.specs.Parts.{boxAt, promiseAt, demandAt, sheetEntryAt}
+use Rattle.reading.specs.Parts.{sheetEntryAt}
+use Rattle.reading.specs.Rows.{ownIn, inputIn}
+use Rattle.reading.proofs.Said.{own-row, input-row}
 use Rattle.reading.specs.Whole.{HouseSheet, readSheet}
 use Rattle.marking.specs.Tables.{boxIn, ownMeets}
 
 module _ (f : Form) (network : List ℕ) (i : ℕ) where
-  abbrev o : ℕ
-  o = nodeOffset f network i
-
-  -- the own box in a row
-  abbrev pub ownIn : Own Route Demand
-  ownIn = record {
-    id = nodeId f network i;
-    initial = routeAt (f .route) network (o + 3);
-    promise = promiseAt (f .route) network (o + 3 + f .route);
-    demand = demandAt network (o + 4 + f .route + f .route);
-  }
-
   module _ (h : isOwn f network i ≡ true) where
-    pub own-box : boxIn f network i ≡ own ownIn
-    unfolding boxIn boxAt isOwn nodeId
-    own-box = rw h
+    pub own-box : boxIn f network i ≡ own (ownIn f network i)
+    unfolding boxIn
+    own-box = own-row f network i h
 
-    pub meets-own : (test : Own Route Demand → Bool) → ownMeets f network test i ≡ test ownIn
+    pub meets-own : (test : Own Route Demand → Bool) → ownMeets f network test i ≡ test (ownIn f network i)
     unfolding ownMeets
     meets-own test = ap (λ (v : Box Route Demand). holds test (asOwn v)) own-box
 
   module _ (h : isOwn f network i ≡ false) where
-    pub input-box : boxIn f network i ≡ input (record { id = nodeId f network i; assumed = routeAt (f .route) network (o + 3) })
-    unfolding boxIn boxAt isOwn nodeId
-    input-box = rw h
+    pub input-box : boxIn f network i ≡ input (inputIn f network i)
+    unfolding boxIn
+    input-box = input-row f network i h
 
     pub meets-input : (test : Own Route Demand → Bool) → ownMeets f network test i ≡ false
     unfolding ownMeets

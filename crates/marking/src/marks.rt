@@ -14,6 +14,7 @@ ghost use Rattle.records.specs.Checked.{CheckedNetwork};
 use layout::Form;
 use layout::ROWS;
 use layout::edge_offset;
+use numbers::one_if;
 use numbers::u16_at;
 use records::row_in;
 
@@ -52,13 +53,6 @@ fn mark_wire(
     mark_if(leaves, row, to != from);
     mark_if(feeds, row, to == k);
     to == k
-}
-
-// 1 where a test is met, and 0 where it is not.
-pub fn one_if(test: bool) -> usize
-    ensures { λ r. ⌜ r ≡ cond test 1 0 ⌝ }
-{
-    if test { 1 } else { 0 }
 }
 
 // Marks the rows that the n edges leave in both tables. Answers how many edges are the fragment's.

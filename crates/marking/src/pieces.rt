@@ -6,12 +6,12 @@ ghost use Rattle.layout.specs.Layout.{nodeCount};
 ghost use Rattle.marking.specs.Marks.{Leaving, Feeding};
 ghost use Rattle.marking.specs.Pieces.{keeps, pieceCode, withPiece};
 ghost use Rattle.marking.specs.Tables.{RowTables};
-use crate::marks::one_if;
 use layout::Form;
 use layout::ROWS;
 use layout::node_offset;
 use nodes::is_own;
 use nodes::promising_at;
+use numbers::one_if;
 
 // What the fragment keeps of the node in row i: 0 nothing, 1 the node as it stands, 2 the node with its note promised, 3 its
 // note assumed.

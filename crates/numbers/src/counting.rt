@@ -1,5 +1,6 @@
 // Numbers to count with, and the offset of the i-th of equal parts.
 ghost use mathlib.Core.Path.{_≡_};
+ghost use mathlib.Core.Bool.{cond};
 ghost use Prim.Native.Nat.{_+_, _≤_, _<_};
 ghost use Rattle.lists.specs.Stride.{at};
 
@@ -15,6 +16,13 @@ pub fn wide16(x: u16) -> usize
     ensures { λ r. ⌜ (r ≡ x) × (r < 65536) ⌝ }
 {
     x as usize
+}
+
+// 1 where a test is met, and 0 where it is not.
+pub fn one_if(test: bool) -> usize
+    ensures { λ r. ⌜ r ≡ cond test 1 0 ⌝ }
+{
+    if test { 1 } else { 0 }
 }
 
 // The offset of the i-th of parts of one size behind a base.

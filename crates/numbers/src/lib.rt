@@ -1,10 +1,11 @@
 // Numbers as a record holds them: big-endian. Their decimal digits, which `lines` puts into a text, are among the definitions.
 //
 // The readers and writers of a record's numbers ask for the room that they touch: their callers have tested the whole
-// record before, and a second test at each number would only cost time. `wide` and `wide16` have no `requires`.
+// record before, and a second test at each number would only cost time. `wide`, `wide16` and `one_if` have no `requires`.
 mod counting;
 mod runs;
 
+pub use counting::one_if;
 pub use counting::stride;
 pub use counting::wide;
 pub use counting::wide16;

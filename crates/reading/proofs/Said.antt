@@ -1,4 +1,6 @@
 -- What a network's bytes say of its boxes and wires, by their places: the tests of the record are the tests of the network read from it.
+--     demand-row                     a box's demand
+--     own-row, input-row             the box in a row
 --     read-ids, read-keys            a box's id and a wire's key
 --     owns-read, has-box-read        a box with an id, and an own one
 --     own-read, sends-read           an own box at all; a wire out of a box
@@ -8,6 +10,7 @@ use mathlib.Core.Bool.{Bool, true, false, cond, not, _&&_}
 use mathlib.Core.List.{List}
 use mathlib.Core.Option.{none, some}
 use Prim.Native.Nat.{ℕ, _+_, _≤_, _<_}
+use native.Mathlib.Omega.{arith}
 use lib.Dec.{eqb, leb, ltb}
 use borrow.Author.Tests.{leb-true, ltb-true, not-true, le-leb, lt-ltb}
 use lib.ListN.{getD}
@@ -23,14 +26,15 @@ use Rattle.lists.proofs.Table.{keys, rowAt, find-rows, any-rows}
 use Rattle.numbers.specs.BigEndian.{u16At}
 use Rattle.routes.specs.declared.Demand.{Demand}
 use Rattle.routes.specs.declared.Route.{Route}
-use Rattle.networks.specs.Network.{Box, Wire, wireKey, boxId, isBox, isOwnBox, hasBox, owns}
+use Rattle.networks.specs.Network.{Box, own, input, Wire, wireKey, boxId, isBox, isOwnBox, hasBox, owns}
 use Rattle.networks.specs.Sound.{sends}
 use Rattle.layout.specs.Form.{nodeWidth}
 use Rattle.layout.specs.Layout.{nodeCount, edgeCount, policyCount, nodePart, edgePart, nodeOffset, edgeOffset}
-use Rattle.nodes.specs.Node.{nodeId, rowOf, ownless, isOwn}
+use Rattle.nodes.specs.Node.{nodeId, rowOf, ownless, isOwn, demandOf}
 use Rattle.records.specs.Edge.{edgeTo, edgeFrom, edgePolicy, edgeKey, boxed, owned, endsFormed, edgeFormed, edgeOk}
 use Rattle.layout.specs.declared.Form.{Form}
-use Rattle.reading.specs.Parts.{boxAt, wireAt}
+use Rattle.reading.specs.Parts.{boxAt, demandAt, wireAt}
+use Rattle.reading.specs.Rows.{ownIn, inputIn}
 use Rattle.reading.specs.Whole.{HouseNetwork, readNetwork}
 
 -- a box's id and kind are the bytes' own
@@ -42,9 +46,27 @@ pub box-own-at : (w : ℕ) (b : List ℕ) (o : ℕ) → isOwnBox (some (boxAt w 
 unfolding boxAt
 box-own-at w b o = cond-ap (λ (v : Box Route Demand). isOwnBox (some v)) (eqb (getD b (o + 2) 0) 0) _ _ ∙ cond-test (eqb (getD b (o + 2) 0) 0)
 
+-- the demand of a box by its own offset
+pub demand-row : (w : ℕ) (b : List ℕ) (o : ℕ) → demandOf w b o ≡ demandAt b (o + 4 + w + w)
+unfolding demandOf demandAt
+demand-row w b o =
+    let five : o + 5 + w + w ≡ o + 4 + w + w + 1 = omega arith in
+    let seven : o + 7 + w + w ≡ o + 4 + w + w + 3 = omega arith in
+    rw (five, seven)
+
 module _ (f : Form) (b : List ℕ) where
   abbrev N : HouseNetwork
   N = readNetwork f b
+
+  -- the box in a row, by its kind
+  module _ (i : ℕ) where
+    pub own-row : isOwn f b i ≡ true → boxAt (f .route) b (nodeOffset f b i) ≡ own (ownIn f b i)
+    unfolding boxAt isOwn nodeId
+    own-row h = rw h
+
+    pub input-row : isOwn f b i ≡ false → boxAt (f .route) b (nodeOffset f b i) ≡ input (inputIn f b i)
+    unfolding boxAt isOwn nodeId
+    input-row h = rw h
 
   -- the i-th box's id, and the j-th wire's key
   pub read-ids : (i : ℕ) → keys boxId (boxAt (f .route) b) (nodeWidth f) (nodePart b) i ≡ nodeId f b i
