@@ -5,5 +5,6 @@ pub mod Demand2
 pub mod Demand3
 pub mod SameAnswer
 pub mod Determined
+pub mod Programs
 pub mod BenchNetworks
 pub mod Bench
