@@ -16,7 +16,7 @@ use streams::write_output;
 fn write_answer(room: &[u8], count: usize, output: &[u8])
     requires { ⌜ Answers cutText (now room) count (now output) ⌝ }
 {
-    write_output(output, b"cut: the fragment could not be written\n");
+    write_output(output, b"cut: the answer could not be written\n");
 }
 
 // Cuts what was read. The room holds more than the longest input, so that a longer one shows; no fragment is longer than the largest

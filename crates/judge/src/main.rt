@@ -15,7 +15,7 @@ use streams::write_output;
 fn write_answer(room: &[u8], count: usize, line: &[u8])
     requires { ⌜ Answers judgeText (now room) count (now line) ⌝ }
 {
-    write_output(line, b"judge: the line could not be written\n");
+    write_output(line, b"judge: the answer could not be written\n");
 }
 
 // Judges what was read. The room holds more than the longest input, so that a longer one shows.
