@@ -1,8 +1,8 @@
 /* Lnianotka for C and for all that calls C: link the archive that `rt staticlib library` writes (x86-64).
  *
  * Every function takes any bytes and comes back. What it promises is proved; what a caller owes is what the types of the
- * proved functions say: a pointer is never null, not even where its length is 0, and no byte of `out` is a byte of the
- * input. A call takes some 150 kilobytes of stack. Nothing is kept between calls. */
+ * proved functions say: a pointer is never null, not even where its length is 0, and no byte of what is written to is a byte
+ * of the input. A call takes some 150 kilobytes of stack. Nothing is kept between calls. */
 #ifndef LNIANOTKA_H
 #define LNIANOTKA_H
 
@@ -21,12 +21,13 @@ size_t lnianotka_cut_input(void);
 size_t lnianotka_judge_answer(void);
 size_t lnianotka_cut_answer(void);
 
-/* The number of the first refusal, 1 to 10, that applies to a network record; 0 where the network is sound. */
-uint8_t lnianotka_check(const uint8_t *network, size_t length);
+/* The number of the first refusal, 1 to 10, that applies to a network record, with its place in `*place`; both are 0 where the
+ * network is sound. */
+uint8_t lnianotka_check(const uint8_t *network, size_t length, size_t *place);
 
-/* The line that the judging program prints when it reads `input`: a network record and then a route list record.
- * Answers the line's length. The line stands at the start of `out` where it fits in `room` bytes, and the bytes behind it
- * keep their values; where it does not fit, all of them do. */
+/* The line that the judging program prints when it reads `input`: a network record and then a route list record. It begins with
+ * 'p' on a pass, with 'f' on a finding and with 'r' on a refusal. Answers the line's length. The line stands at the start
+ * of `out` where it fits in `room` bytes, and the bytes behind it keep their values; where it does not fit, all of them do. */
 size_t lnianotka_judge(const uint8_t *input, size_t length, uint8_t *out, size_t room);
 
 /* What the cutting program writes when it reads `input`: a network record, one byte for the fragment asked, and then a

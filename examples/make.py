@@ -194,7 +194,7 @@ def main():
         for name, data in files.items():
             (HERE / name).write_bytes(data)
         return 0
-    kept = {path.name for path in HERE.iterdir()} - {"make.py", "check", "README.md"}
+    kept = {path.name for path in HERE.iterdir()} - {"make.py", "README.md"}
     wrong = {name for name in files if name in kept and (HERE / name).read_bytes() != files[name]}
     wrong |= kept ^ set(files)
     for name in sorted(wrong):

@@ -1,15 +1,17 @@
 //! The proved library, as Rust calls it. A slice is handed over as a pointer and a length.
 
 extern "C" {
-    fn lnianotka_check(network: *const u8, length: usize) -> u8;
+    fn lnianotka_check(network: *const u8, length: usize, place: *mut usize) -> u8;
     fn lnianotka_judge(input: *const u8, length: usize, out: *mut u8, room: usize) -> usize;
     fn lnianotka_cut(input: *const u8, length: usize, out: *mut u8, room: usize) -> usize;
 }
 
-/// The first of the refusals 1 to 10 that applies to a network, or 0.
-pub fn check(network: &[u8]) -> u8 {
-    // SAFETY: the function reads the bytes of the slice alone.
-    unsafe { lnianotka_check(network.as_ptr(), network.len()) }
+/// Number and place of the first refusal of 1 to 10 that applies to a network, or two zeros.
+pub fn check(network: &[u8]) -> (u8, usize) {
+    let mut place = 0;
+    // SAFETY: the function reads the bytes of the slice and writes the place alone.
+    let number = unsafe { lnianotka_check(network.as_ptr(), network.len(), &mut place) };
+    (number, place)
 }
 
 /// The judge's answer, laid at the start of `out` where it fits; gives its length.

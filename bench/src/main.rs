@@ -40,7 +40,7 @@ fn main() {
             println!();
         };
         let network = &load.network[..];
-        assert_eq!(library::check(network), 0);
+        assert_eq!(library::check(network), (0, 0));
         show(
             "check",
             both(

@@ -7,12 +7,13 @@ ghost use lib.ListN.{length};
 use cutting::CutAnswer;
 use cutting::cut;
 use layout::number_of;
-use libc::STDIN_FILENO;
 use libc::STDOUT_FILENO;
-use lines::first_length;
 use numbers::u16_at;
+use numbers::u32_at;
 use numbers::wide;
 use numbers::wide16;
+use streams::Input;
+use streams::read_input;
 
 // Prints a line: a text, a space and a number.
 fn say(text: &[u8], n: usize) {
@@ -98,12 +99,25 @@ fn run(network: [u8; 124], sheet: [u8; 43]) {
     say_whole(&network, &last_in(sheet, 0));
 }
 
-// A record longer than its place would be cut short, and one that is shorter has zeros behind it.
+// Reads a record of as many bytes as the room has, and answers whether that was done.
+fn read_record(room: &mut [u8]) -> bool {
+    let length = room.len();
+    let Input::Read(got) = read_input(room, b"chain: a record could not be read\n") else {
+        return false;
+    };
+    got == length
+}
+
+// The record's length is what its own length field says: a longer one would be cut short here, and refused by every cut.
 fn main() {
     let mut network = [0u8; 124];
     let mut sheet = [0u8; 43];
-    io::read_full(STDIN_FILENO, &mut network);
-    io::read_full(STDIN_FILENO, &mut sheet);
-    say(b"chain record: bytes", first_length(&network));
+    if !read_record(&mut network) {
+        return;
+    }
+    if !read_record(&mut sheet) {
+        return;
+    }
+    say(b"chain record: bytes", 4 + (u32_at(&network, 0) as usize));
     run(network, sheet);
 }

@@ -3,6 +3,7 @@ pub mod AnswerLaws
 pub mod CheckLaws
 pub mod RefusalLaws
 pub mod TextLaws
+pub mod Starts
 -- The cutter's answer by its numbers; the theorems about networks, on bytes.
 pub mod Answers
 pub mod OnBytes

@@ -1,29 +1,38 @@
 // The judging program: reads a network record and then a route list record from standard input, and prints the judge's line.
-ghost use mathlib.Core.Path.{_≡_};
-ghost use Rattle.judging.specs.Text.{judgeText};
+ghost use Prim.Native.Nat.{_≤_, _<_};
+ghost use lib.ListN.{length};
+ghost use Rattle.streams.specs.Answers.{Answers};
+ghost use Rattle.judging.specs.Text.{judgeText, judgeBound};
 use judging::LONGEST;
 use judging::judge_bytes;
-use libc::STDIN_FILENO;
-use libc::STDOUT_FILENO;
 use lines::LONGEST_LINE;
+use streams::Input;
+use streams::read_input;
+use streams::write_output;
 
-// Writes the answer to an input. No contract can say what a call of C's writes, so what is written is said where it is asked.
-fn write_answer(input: &[u8], text: &[u8])
-    requires { ⌜ now text ≡ judgeText (now input) ⌝ }
+// Writes the answer. No contract can say what a call of C's writes, so what is written is said where it is asked: the judge's line
+// on the input of which so many bytes were read into the room.
+fn write_answer(room: &[u8], count: usize, line: &[u8])
+    requires { ⌜ Answers judgeText (now room) count (now line) ⌝ }
 {
-    io::write_all(STDOUT_FILENO, text);
+    write_output(line, b"judge: the answer could not be written\n");
 }
 
-// Judges an input, with room for the longest line.
-fn answer(input: &[u8]) {
+// Judges what was read. The room holds more than the longest input, so that a longer one shows.
+fn answer(room: &[u8], count: usize)
+    requires { ⌜ (judgeBound < length (now room)) × (count ≤ length (now room)) ⌝ }
+{
     let mut line = [0u8; LONGEST_LINE];
-    let length = judge_bytes(input, &mut line);
-    write_answer(input, &line[0..length]);
+    let length = judge_bytes(&room[0..count], &mut line);
+    write_answer(room, count, &line[0..length]);
 }
 
-// The room is one byte more than the longest input, so that a longer one shows.
+// What could not be read to its end is not judged.
 fn main() {
     let mut room = [0u8; LONGEST + 1];
-    let length = io::read_full(STDIN_FILENO, &mut room);
-    answer(&room[0..length]);
+    let Input::Read(count) = read_input(&mut room, b"judge: standard input could not be read\n")
+    else {
+        return;
+    };
+    answer(&room, count);
 }

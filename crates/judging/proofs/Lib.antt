@@ -11,6 +11,7 @@ pub mod SearchLaws
 pub mod PrepareLaws
 pub mod EntryLaws
 pub mod TextLaws
+pub mod Starts
 -- A verdict by its answer; the theorems about networks, on bytes.
 pub mod Answers
 pub mod OnBytes

@@ -9,6 +9,7 @@ ghost use Rattle.lists.specs.Laid.{placed};
 ghost use Rattle.layout.specs.Form.{widest};
 ghost use Rattle.layout.specs.Refusals.{numberIn};
 ghost use Rattle.records.specs.Network.{networkRefusal};
+ghost use Rattle.library.specs.Place.{placeIn};
 ghost use Rattle.judging.specs.Text.{judgeText, judgeBound};
 ghost use Rattle.cutting.specs.Text.{cutText, cutBound};
 use layout::Check;
@@ -18,15 +19,21 @@ ghost use Rattle.lines.specs.Line.{longestLine};
 use lines::LONGEST_LINE;
 use records::check_network;
 
-// The number of the first refusal that applies to a network record, or 0 where the network is sound.
+// The number of the first refusal that applies to a network record, with its place through a reference; both are 0 where the network is
+// sound.
 #[no_mangle]
-pub extern "C" fn lnianotka_check(network: &[u8]) -> u8
-    ensures { λ r. ⌜ r ≡ numberIn (networkRefusal (now (network .entry))) ⌝ }
+pub extern "C" fn lnianotka_check(network: &[u8], place: &mut usize) -> u8
+    ensures number { λ r. ⌜ r ≡ numberIn (networkRefusal (now (network .entry))) ⌝ }
+    ensures offset { λ _. ⌜ now (place .exit) ≡ placeIn (networkRefusal (now (network .entry))) ⌝ }
 {
     match check_network(network) {
-        Check::Fine(_) => 0,
+        Check::Fine(_) => {
+            *place = 0;
+            0
+        }
         Check::Refused(refusal) => {
             let class = refusal.class;
+            *place = refusal.place;
             number_of(class)
         }
     }

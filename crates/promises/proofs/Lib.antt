@@ -6,3 +6,4 @@ pub mod Demand3
 pub mod Fragments
 pub mod SameAnswer
 pub mod Determined
+pub mod Programs

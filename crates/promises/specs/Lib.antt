@@ -6,5 +6,6 @@ pub mod Demand3
 pub mod Fragments
 pub mod SameAnswer
 pub mod Determined
+pub mod Programs
 pub mod BenchNetworks
 pub mod Bench

@@ -2,7 +2,8 @@
 // reference made.
 //
 // A case is one byte, the number of a call, the input's length as four bytes, and the input. Its answer is the output's length as
-// four bytes, and the output. What each number calls is said in 'answer' and nowhere else.
+// four bytes, and the output. What each number calls is said in 'answer' and nowhere else. Where a read or a write fails, that is said and the
+// run ends.
 ghost use Prim.Native.Nat.{_≤_};
 ghost use lib.ListN.{length};
 use cutting::CutAnswer;
@@ -10,8 +11,6 @@ use cutting::cut;
 use cutting::cut_bytes;
 use judging::judge_bytes;
 use layout::number_of;
-use libc::STDIN_FILENO;
-use libc::STDOUT_FILENO;
 use lines::Line;
 use lines::place_line;
 use numbers::put_u32;
@@ -19,6 +18,9 @@ use numbers::u16_at;
 use numbers::u32_at;
 use numbers::wide;
 use numbers::wide16;
+use streams::Input;
+use streams::read_input;
+use streams::write_output;
 
 // The most bytes of an input and of an answer.
 const ROOM: usize = 65536;
@@ -87,25 +89,37 @@ fn write_answer(call: u8, input: &[u8]) -> bool {
     }
     let mut head = [0u8; 4];
     put_u32(&mut head, 0, length as u32);
-    io::write_all(STDOUT_FILENO, &head);
-    io::write_all(STDOUT_FILENO, &out[0..length])
+    if !write_output(
+        &head,
+        b"replay: the length of an answer could not be written\n",
+    ) {
+        return false;
+    }
+    write_output(&out[0..length], b"replay: an answer could not be written\n")
 }
 
 // Reads the input of a case to the end of room and writes the answer. Answers whether that was done: a case that is cut short
 // has no answer.
 fn answer_input(call: u8, room: &mut [u8]) -> bool {
     let length = room.len();
-    let got = io::read_full(STDIN_FILENO, room);
+    let Input::Read(got) = read_input(room, b"replay: the input of a case could not be read\n")
+    else {
+        return false;
+    };
     if got < length {
         return false;
     }
-    write_answer(call, &room[0..got])
+    write_answer(call, room)
 }
 
 // Reads a case and writes its answer. Answers whether there was one.
 fn answer_next() -> bool {
     let mut head = [0u8; 5];
-    if io::read_full(STDIN_FILENO, &mut head) < 5 {
+    let Input::Read(got) = read_input(&mut head, b"replay: the head of a case could not be read\n")
+    else {
+        return false;
+    };
+    if got < 5 {
         return false;
     }
     let length = u32_at(&head, 1) as usize;

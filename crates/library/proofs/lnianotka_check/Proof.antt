@@ -1,5 +1,5 @@
--- A check that finds nothing has the number 0, and one that refuses has its refusal's.
-use Rattle.library.proofs.Laws.{numbering}
+-- A check that finds nothing has 0 for both, and one that refuses has its refusal's number and place.
+use Rattle.library.proofs.Laws.{checking}
 use borrow.Author.Needs.{needs}
 use Rattle.library.proofs.lnianotka_check.Statement.{statement}
 use Rattle.library.proofs.lnianotka_check.Tie as tie
@@ -17,10 +17,10 @@ number-of-requires : tie.Need-number-of-requires
 number-of-requires c κs = search needs
 
 returns : tie.Need-returns
-returns c = search numbering
+returns c = search checking
 
 returns-2 : tie.Need-returns-2
-returns-2 c = search numbering
+returns-2 c = search checking
 
 pub lnianotka-check-spec : {M : Type 1} → statement M
 lnianotka-check-spec =

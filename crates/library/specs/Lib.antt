@@ -1,0 +1,2 @@
+-- What crosses to other languages as numbers.
+pub mod Place

@@ -1,0 +1,107 @@
+-- What the programs promise, proved. An output over the bound is a refused line whatever is behind (judge-start, cut-start). A line's first
+-- byte is its first word's; a fragment's record is shorter than 2^16 bytes, so that its length's high byte is 0.
+use mathlib.Core.Path.{_≡_, refl, sym, ap, _∙_}
+use mathlib.Core.Bool.{Bool, true, false, cond}
+use mathlib.Core.List.{List, [], _∷_, _++_}
+use mathlib.Core.Logic.{⊎-elim}
+use Prim.Native.Nat.{ℕ, _+_, _≤_, _<_, _/_}
+use native.Mathlib.Nat.{div-eq-of-lt}
+use native.Mathlib.Omega.{arith}
+use lib.Dec.{ltb}
+use lib.ListN.{length, take, drop, replicate, length-take, length-replicate, take-append-drop}
+use lib.Seq.{take-all}
+use Rattle.lists.specs.Answer.{Answer, given, refused}
+use Rattle.lists.specs.Test.{firstOf}
+use Rattle.lists.proofs.Test.{le-or-lt}
+use Rattle.numbers.specs.BigEndian.{u16Bytes, u32Bytes}
+use Rattle.routes.specs.declared.Route.{Route}
+use Rattle.networks.specs.Judge.{Verdict, pass, found}
+use Rattle.layout.specs.Form.{nodeWidth, formOf, widest}
+use Rattle.layout.specs.declared.Form.{Form}
+use Rattle.reading.specs.Largest.{largestNetwork}
+use Rattle.reading.specs.Whole.{HouseNetwork, writeNetwork}
+use Rattle.lines.specs.Bound.{withinBound}
+use Rattle.lines.specs.Line.{line, passLine, refusedLine, foundLine}
+use Rattle.lines.specs.Split.{firstRecord, restOf}
+use Rattle.judging.specs.Judging.{judgeRecords}
+use Rattle.judging.specs.Text.{verdictLine, judgeBound, judgeText}
+use Rattle.judging.proofs.Starts.{judge-start}
+use Rattle.cutting.specs.Cutting.{cutNetwork}
+use Rattle.cutting.specs.Text.{cutOutput, askedOf, behindAsked, cutBound, cutText}
+use Rattle.cutting.proofs.Starts.{cut-start}
+use Rattle.cutting.proofs.TextLaws.{text-fits}
+use Rattle.promises.specs.Programs.{JudgeReads, CutReads, judgeAnswer, cutAnswer, JudgePrints, CutWrites, judgeMark, JudgeShows, cutMark, CutShows}
+
+-- the first bytes of an input, one more than a bound
+start-told : (bound : ℕ) (text : List ℕ → List ℕ) → ((read more : List ℕ) → bound < length read → text (read ++ more) ≡ text read)
+    → (input : List ℕ) → text (take (bound + 1) input) ≡ text input
+start-told bound text b input = ⊎-elim
+    (λ (short : length input ≤ bound + 1). ap text (take-all (bound + 1) input short))
+    (λ (long : bound + 1 < length input).
+    sym (b (take (bound + 1) input) (drop (bound + 1) input) (simp length-take (omega arith))) ∙ ap text (take-append-drop (bound + 1) input))
+    (le-or-lt (length input) (bound + 1))
+
+pub judge-reads : (input : List ℕ) → JudgeReads input
+judge-reads = start-told judgeBound judgeText judge-start
+
+pub cut-reads : (input : List ℕ) → CutReads input
+cut-reads = start-told cutBound cutText cut-start
+
+verdict-first : (a : Answer (Verdict Route)) → take 1 (verdictLine a) ≡ judgeMark a
+unfolding verdictLine passLine refusedLine foundLine line
+verdict-first (given (pass count)) = refl
+verdict-first (given (found number node route count)) = refl
+verdict-first (refused number place) = refl
+
+pub judge-prints : (input : List ℕ) → JudgePrints input
+unfolding judgeText withinBound verdictLine
+judge-prints input = go (ltb judgeBound (length input))
+  where
+    a : Answer (Verdict Route)
+    a = judgeRecords (firstRecord input) (restOf input)
+
+    go : (t : Bool) → cond t (refusedLine 5 judgeBound) (verdictLine a) ≡ verdictLine (firstOf ((t, refused 5 judgeBound) ∷ []) a)
+    go true = refl
+    go false = refl
+
+pub judge-shows : (input : List ℕ) → JudgeShows input
+judge-shows input = ap (take 1) (judge-prints input) ∙ verdict-first (judgeAnswer input)
+
+pub cut-writes : (input : List ℕ) → CutWrites input
+unfolding cutText withinBound cutOutput
+cut-writes input = go (ltb cutBound (length input))
+  where
+    f : Form
+    f = formOf (firstRecord input)
+
+    a : Answer HouseNetwork
+    a = cutNetwork (firstRecord input) (behindAsked (restOf input)) (askedOf (restOf input))
+
+    go : (t : Bool) → cond t (refusedLine 5 cutBound) (cutOutput f a) ≡ cutOutput f (firstOf ((t, refused 5 cutBound) ∷ []) a)
+    go true = refl
+    go false = refl
+
+-- the high byte of a number below 2^16
+high-byte : (n : ℕ) → n < 65536 → n / 65536 / 256 ≡ 0
+high-byte n small = ap (λ (k : ℕ). k / 256) (div-eq-of-lt small)
+
+record-first : (f : Form) (N : HouseNetwork) → length (writeNetwork f N) ≤ largestNetwork widest → take 1 (writeNetwork f N) ≡ 0 ∷ []
+unfolding writeNetwork u32Bytes u16Bytes largestNetwork nodeWidth
+record-first f N short = ap (λ (k : ℕ). k ∷ []) (high-byte _ (omega arith))
+
+output-first : (f : Form) (a : Answer HouseNetwork) → length (cutOutput f a) ≤ largestNetwork widest → take 1 (cutOutput f a) ≡ cutMark a
+unfolding cutOutput refusedLine line
+output-first f (given F) short = record-first f F short
+output-first f (refused number place) short = refl
+
+-- no output is longer than the largest network
+cut-short : (input : List ℕ) → length (cutText input) ≤ largestNetwork widest
+cut-short input =
+    let room = largestNetwork widest in
+    let long = length-replicate {A = ℕ} room 0 in
+    omega (arith, text-fits input (length (cutText input)) refl (replicate room 0) long)
+
+pub cut-shows : (input : List ℕ) → CutShows input
+cut-shows input =
+    let written = cut-writes input in
+    ap (take 1) written ∙ output-first (formOf (firstRecord input)) (cutAnswer input) (rw written at (cut-short input))

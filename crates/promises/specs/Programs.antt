@@ -1,0 +1,61 @@
+-- What the two programs promise beside the lines that document 01 gives them: how much of an input counts, and how a script tells one
+-- answer from another.
+--     JudgeReads, CutReads      no byte counts that is further back than one behind the longest input
+--     judgeAnswer, cutAnswer    what is answered to an input
+--     JudgePrints, CutWrites    the output is that answer's
+--     JudgeShows, CutShows      the first byte of the output says which kind of answer it is
+use mathlib.Core.Path.{_≡_}
+use mathlib.Core.List.{List, [], _∷_}
+use Prim.Native.Nat.{ℕ, _+_}
+use lib.Dec.{ltb}
+use lib.ListN.{length, take}
+use Rattle.lists.specs.Answer.{Answer, given, refused}
+use Rattle.lists.specs.Test.{firstOf}
+use Rattle.routes.specs.declared.Route.{Route}
+use Rattle.networks.specs.Judge.{Verdict, pass, found}
+use Rattle.layout.specs.Form.{formOf}
+use Rattle.reading.specs.Whole.{HouseNetwork}
+use Rattle.lines.specs.Line.{text}
+use Rattle.lines.specs.Split.{firstRecord, restOf}
+use Rattle.judging.specs.Judging.{judgeRecords}
+use Rattle.judging.specs.Text.{verdictLine, judgeBound, judgeText}
+use Rattle.cutting.specs.Cutting.{cutNetwork}
+use Rattle.cutting.specs.Text.{cutOutput, askedOf, behindAsked, cutBound, cutText}
+
+-- Each program reads no more than one byte over its bound: the output is that of the whole input.
+abbrev pub JudgeReads : List ℕ → Type 0
+JudgeReads input = judgeText (take (judgeBound + 1) input) ≡ judgeText input
+
+abbrev pub CutReads : List ℕ → Type 0
+CutReads input = cutText (take (cutBound + 1) input) ≡ cutText input
+
+-- An input over the bound is refused with 5, the bound as its place; any other is split and judged, or cut.
+abbrev pub judgeAnswer : List ℕ → Answer (Verdict Route)
+judgeAnswer input = firstOf ((ltb judgeBound (length input), refused 5 judgeBound) ∷ []) (judgeRecords (firstRecord input) (restOf input))
+
+abbrev pub cutAnswer : List ℕ → Answer HouseNetwork
+cutAnswer input = firstOf ((ltb cutBound (length input), refused 5 cutBound) ∷ [])
+    (cutNetwork (firstRecord input) (behindAsked (restOf input)) (askedOf (restOf input)))
+
+abbrev pub JudgePrints : List ℕ → Type 0
+JudgePrints input = judgeText input ≡ verdictLine (judgeAnswer input)
+
+abbrev pub CutWrites : List ℕ → Type 0
+CutWrites input = cutText input ≡ cutOutput (formOf (firstRecord input)) (cutAnswer input)
+
+-- The judge's line begins with a `p` on a pass, with an `f` on a finding, with an `r` on a refusal.
+abbrev pub judgeMark : Answer (Verdict Route) → List ℕ
+judgeMark (given (pass count)) = text "p"
+judgeMark (given (found number node route count)) = text "f"
+judgeMark (refused number place) = text "r"
+
+abbrev pub JudgeShows : List ℕ → Type 0
+JudgeShows input = take 1 (judgeText input) ≡ judgeMark (judgeAnswer input)
+
+-- The cutter's output begins with a zero byte where it is a fragment's record, with an `r` on a refusal.
+abbrev pub cutMark : Answer HouseNetwork → List ℕ
+cutMark (given fragment) = 0 ∷ []
+cutMark (refused number place) = text "r"
+
+abbrev pub CutShows : List ℕ → Type 0
+CutShows input = take 1 (cutText input) ≡ cutMark (cutAnswer input)

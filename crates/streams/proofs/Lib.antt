@@ -1,0 +1,3 @@
+-- Laws for the programs: Answers. Laws for the loop that reads: Laws.
+pub mod Answers
+pub mod Laws
