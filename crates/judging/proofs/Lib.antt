@@ -9,6 +9,7 @@ pub mod WireLaws
 pub mod LeftLaws
 pub mod SearchLaws
 pub mod PrepareLaws
+pub mod GivenLaws
 pub mod EntryLaws
 pub mod TextLaws
 -- A verdict by its answer; the theorems about networks, on bytes.

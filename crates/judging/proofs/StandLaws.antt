@@ -1,28 +1,28 @@
 -- The table of where routes stand, as the loop over the nodes fills it.
---     stands, standing     one row, and the loop
---     stood                from the table of entries to the entries
-use mathlib.Core.Path.{_≡_, refl, ap, _∙_}
+--     stands, filling      one row, and the loop
+--     stands-entered       from the table of entries to the entries
+--     stands-hold          what the table holds
+use mathlib.Core.Path.{_≡_, refl, ap, ap₂, _∙_}
 use mathlib.Core.Bool.{Bool, true, false, cond}
 use mathlib.Core.List.{List}
-use mathlib.Core.Logic.{⊎-elim}
-use Prim.Native.Nat.{ℕ, _+_, _*_, _≤_, _<_, zero-le}
-use native.Mathlib.Nat.{not-suc-le-zero, eq-or-lt-of-le, le-of-suc-le-suc}
-use native.Mathlib.Numerals.{add-one}
+use Prim.Native.Nat.{ℕ, zero, suc, _+_, _*_, _≤_, _<_, zero-le}
 use native.Mathlib.Omega.{arith}
-use lib.ListN.{length, getD, set, length-set}
-use lib.Seq.{getD-set-same, getD-set-other}
+use lib.ListN.{length, getD, set, replicate, length-replicate}
 use mir.Syntax.{w64}
 use mir.Val.{Fits}
+use Rattle.lists.specs.Gather.{tableAfter}
+use Rattle.lists.proofs.Gather.{after-none, after-next, after-stored}
 use Rattle.lists.specs.Stride.{at}
 use Rattle.numbers.specs.BigEndian.{u16At}
 use Rattle.numbers.proofs.StrideLaws.{stride-low}
 use Rattle.layout.specs.Layout.{entryOffset, Room, nodeCount, edgeCount, policyCount, policyOffset, nodeOffset, edgeOffset}
 use Rattle.layout.specs.Form.{Usable, entryWidth, nodeWidth, listLead}
 use Rattle.nodes.specs.Node.{isOwn}
+use Rattle.layout.specs.declared.Check.the-variants.{Fine}
 use Rattle.layout.specs.declared.Form.{Form}
 use Rattle.records.specs.Checked.{CheckedNetwork}
-use Rattle.records.specs.Entered.{EntryRows}
-use Rattle.judging.specs.Prepared.{standAt, standOf, StandFrom}
+use Rattle.records.specs.Entered.{entryIn, EntryRows}
+use Rattle.judging.specs.Prepared.{standAt, standOf, placedIn, withStand, withStands, standsAfter}
 use Rattle.judging.proofs.PartLaws.{inEntry, inNode}
 
 -- the sums stay small
@@ -75,59 +75,74 @@ module _ (f : Form) (network : List ℕ) (h : CheckedNetwork f network) where
 pub ruleset stands = (stand-usable, stand-room, stand-long, stand-few, stand-lead-fits, stand-fits, stand-own, stand-input)
 
 -- what the loop knows before row i
-pub record Filling (f : Form) (network places stands : List ℕ) (n i : ℕ) : Type 0 where
+pub record Filling (f : Form) (network places stands₀ stands : List ℕ) (n i : ℕ) : Type 0 where
   pub within : i ≤ n
   pub nodes : n ≡ nodeCount network
-  pub long : length stands ≡ 1024
-  pub rows : StandFrom f network places stands i
+  pub filled : stands ≡ tableAfter (withStand f network (placedIn places)) i stands₀
 
-module _ (f : Form) (network places stands : List ℕ) where
-  pub filling-start : (n m : ℕ) → length stands ≡ 1024 → n ≡ m → m ≡ u16At network 5 → Filling f network places stands n 0
-  unfolding StandFrom
-  filling-start n m s p q = record { within = zero-le; nodes = p ∙ q; long = s; rows = λ i l. absurd (not-suc-le-zero l) }
+module _ (f : Form) (network places stands₀ : List ℕ) where
+  pub filling-start : (n m : ℕ) → n ≡ m → m ≡ u16At network 5 → Filling f network places stands₀ stands₀ n 0
+  filling-start n m p q = record { within = zero-le; nodes = p ∙ q; filled = after-none (withStand f network (placedIn places)) stands₀ }
 
   pub filling-counts : CheckedNetwork f network → 5 + 2 ≤ length network
   filling-counts h = let l = h .room .long in omega arith
 
-  module _ (n i : ℕ) (k : Filling f network places stands n i) where
-    pub filling-end : n ≤ i → StandFrom f network places stands (nodeCount network)
+  module _ (stands : List ℕ) (n i : ℕ) (k : Filling f network places stands₀ stands n i) where
+    pub filling-end : n ≤ i → stands ≡ withStands f network (placedIn places) stands₀
+    unfolding withStands
     filling-end l =
         let e : i ≡ nodeCount network = let w = k .within in let m = k .nodes in omega arith in
-        rw (← e) (k .rows)
+        rw (← e) (k .filled)
 
     module _ (l : i < n) where
       pub filling-row : i < nodeCount network
       filling-row = let m = k .nodes in omega arith
 
-      module _ (h : CheckedNetwork f network) where
-        pub filling-index : i < 1024
-        filling-index = let u = h .room .usable .few in let m = h .room .few in omega (arith, filling-row)
+      pub filling-index : CheckedNetwork f network → i < 1024
+      filling-index h = let u = h .room .usable .few in let m = h .room .few in omega (arith, filling-row)
 
-        pub filling-length : i < length stands
-        filling-length = let e = k .long in omega (arith, filling-index)
+      pub filling-next : (x y : ℕ) → y ≡ getD places i 0 → x ≡ standAt f network i y → Filling f network places stands₀ (set stands i x) n (i + 1)
+      unfolding withStand placedIn
+      filling-next x y q e = record {
+        within = omega arith;
+        nodes = k .nodes;
+        filled = after-next (withStand f network (placedIn places)) stands₀ i stands (set stands i x) (k .filled) (ap (set stands i) (e ∙ ap (standAt f network i) q));
+      }
 
-        pub filling-next : (x y : ℕ) → y ≡ getD places i 0 → x ≡ standAt f network i y → Filling f network places (set stands i x) n (i + 1)
-        unfolding StandFrom
-        filling-next x y q e = record {
-          within = omega arith;
-          nodes = k .nodes;
-          long = length-set stands i x ∙ k .long;
-          rows = λ j m. ⊎-elim
-              (λ (s : j ≡ i). rw (s, getD-set-same stands i x 0 filling-length) (e ∙ ap (standAt f network i) q))
-              (λ (s : j < i). getD-set-other stands i j x 0 (λ c. omega arith) ∙ k .rows j s)
-              (eq-or-lt-of-le (le-of-suc-le-suc (rw add-one at m)));
-        }
+pub ruleset filling = (filling-start, filling-counts, filling-end, filling-row, filling-index, filling-next)
 
-pub ruleset filling = (filling-start, filling-counts, filling-end, filling-row, filling-index, filling-length, filling-next)
+-- two ways to the entries that say the same of where the routes stand fill the table alike
+steps-same : (f : Form) (network : List ℕ) (entry other : ℕ → ℕ) (table : List ℕ) (n : ℕ)
+    → ((i : ℕ) → i < n → standAt f network i (entry i) ≡ standAt f network i (other i))
+    → tableAfter (withStand f network entry) n table ≡ tableAfter (withStand f network other) n table
+unfolding tableAfter withStand
+steps-same f network entry other table zero h = refl
+steps-same f network entry other table (suc n) h =
+    ap₂ (λ (t : List ℕ) (x : ℕ). set t n x) (steps-same f network entry other table n (λ i l. h i (omega arith))) (h n (omega arith))
 
--- a table that has the entries' rows
-pub stood : (f : Form) (network list places stands : List ℕ) → EntryRows f listLead network list places → StandFrom f network places stands (nodeCount network)
-    → (i : ℕ) → i < nodeCount network → getD stands i 0 ≡ standOf f network list i
-unfolding StandFrom standOf standAt
-stood f network list places stands p s i l = s i l ∙ go (isOwn f network i) refl
-  where
-    go : (t : Bool) → isOwn f network i ≡ t
-        → cond t (length network + (entryOffset f listLead (getD places i 0) + listLead)) (inNode f network list i)
-        ≡ cond t (length network + inEntry f network list i) (inNode f network list i)
-    go true q = ap (λ (k : ℕ). length network + (entryOffset f listLead k + listLead)) (p .row i l q .is)
-    go false q = refl
+module _ (f : Form) (network list : List ℕ) where
+  -- a table that has the entries' rows
+  stood : (places : List ℕ) → EntryRows f listLead network list places → (i : ℕ) → i < nodeCount network
+      → standAt f network i (placedIn places i) ≡ standAt f network i (entryIn f listLead network list i)
+  unfolding standAt placedIn
+  stood places p i l = go (isOwn f network i) refl
+    where
+      go : (t : Bool) → isOwn f network i ≡ t
+          → cond t (length network + (entryOffset f listLead (getD places i 0) + listLead)) (inNode f network list i)
+          ≡ cond t (length network + inEntry f network list i) (inNode f network list i)
+      go true q = ap (λ (k : ℕ). length network + (entryOffset f listLead k + listLead)) (p .row i l q .is)
+      go false q = refl
+
+  pub stands-entered : (places table : List ℕ) → EntryRows f listLead network list places
+      → withStands f network (placedIn places) table ≡ standsAfter network list (Fine f) table
+  unfolding withStands standsAfter
+  stands-entered places table p = steps-same f network (placedIn places) (entryIn f listLead network list) table (nodeCount network) (stood places p)
+
+  -- what a table of zeros holds then
+  pub stands-hold : (stands : List ℕ) → CheckedNetwork f network → stands ≡ standsAfter network list (Fine f) (replicate 1024 0)
+      → (i : ℕ) → i < nodeCount network → getD stands i 0 ≡ standOf f network list i
+  unfolding standsAfter withStands withStand standOf
+  stands-hold stands h e i l =
+      let few = h .room .few in
+      let most = h .room .usable .few in
+      rw e (after-stored (standOf f network list) (replicate 1024 0) (nodeCount network) (omega (arith, length-replicate {A = ℕ} 1024 0)) i l)

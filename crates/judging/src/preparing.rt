@@ -2,12 +2,13 @@
 // route of each row stands, so that a sender's route costs a look in each.
 ghost use mathlib.Core.Path.{_≡_};
 ghost use Prim.Native.Nat.{_≤_, _<_};
-ghost use lib.ListN.{length, replicate};
-ghost use Rattle.layout.specs.Form.{listLead};
+ghost use lib.ListN.{replicate};
+ghost use Rattle.layout.specs.Form.{listLead, formOf};
 ghost use Rattle.layout.specs.Layout.{nodeCount};
 ghost use Rattle.layout.specs.Refusals.{checkAnswer};
 ghost use Rattle.records.specs.Checked.{CheckedNetwork, CheckedEntries};
-ghost use Rattle.judging.specs.Prepared.{standAt, StandFrom, StandingAfter, PreparedAfter, lackingRefusal, prepareRefusal};
+ghost use Rattle.records.specs.Rows.{RowsAfter};
+ghost use Rattle.judging.specs.Prepared.{standAt, placedIn, withStands, standsAfter, lackingRefusal, prepareRefusal};
 use entries::check_list;
 use layout::Check;
 use layout::Class;
@@ -37,8 +38,8 @@ fn stand_at(form: Form, network: &[u8], i: usize, entry: usize) -> usize
 
 // Fills the table of where routes stand, from the table of entries.
 fn fill_stands(form: Form, network: &[u8], places: &[u16; ROWS], stands: &mut [usize; ROWS])
-    requires { ⌜ CheckedNetwork form (now network) × (length (now stands) ≡ 1024) ⌝ }
-    ensures { λ _. ⌜ StandFrom form (now (network .entry)) (now (places .entry)) (now (stands .exit)) (nodeCount (now (network .entry))) ⌝ }
+    requires { ⌜ CheckedNetwork form (now network) ⌝ }
+    ensures { λ _. ⌜ now (stands .exit) ≡ withStands form (now (network .entry)) (placedIn (now (places .entry))) (now (stands .entry)) ⌝ }
 {
     let n = wide16(u16_at(network, NODES_FIELD));
     let mut i = 0;
@@ -48,11 +49,11 @@ fn fill_stands(form: Form, network: &[u8], places: &[u16; ROWS], stands: &mut [u
     }
 }
 
-// Number 17, and the table of where routes stand.
+// Number 17, and where that does not apply the table of where routes stand.
 fn enter(form: Form, network: &[u8], list: &[u8], stands: &mut [usize; ROWS]) -> Check
-    requires { ⌜ CheckedNetwork form (now network) × CheckedEntries form listLead (now list) × (length (now stands) ≡ 1024) ⌝ }
+    requires { ⌜ CheckedNetwork form (now network) × CheckedEntries form listLead (now list) ⌝ }
     ensures numbers { λ r. ⌜ checkAnswer r ≡ lackingRefusal form (now (network .entry)) (now (list .entry)) ⌝ }
-    ensures table { λ r. ⌜ StandingAfter form (now (network .entry)) (now (list .entry)) r (now (stands .exit)) ⌝ }
+    ensures table { λ r. ⌜ now (stands .exit) ≡ standsAfter (now (network .entry)) (now (list .entry)) r (now (stands .entry)) ⌝ }
 {
     let mut places = [0u16; ROWS];
     let row = place_entries(form, LIST_LEAD, network, list, &mut places);
@@ -63,17 +64,18 @@ fn enter(form: Form, network: &[u8], list: &[u8], stands: &mut [usize; ROWS]) ->
     Check::Fine(form)
 }
 
-// Checks a network and a list for judging, and fills the two tables, of which the one from ids to rows is lent with zeros. What a
-// refusal leaves in them is not said.
+// Checks a network and a list for judging, and fills two tables: the one from ids to rows, which is lent with zeros, where none of
+// 1 to 8 applies, and the one of where routes stand where nothing is refused. Else each is as it was.
 pub fn prepare(
     network: &[u8],
     list: &[u8],
     rows: &mut [u16; 65536],
     stands: &mut [usize; ROWS],
 ) -> Check
-    requires { ⌜ (now rows ≡ replicate 65536 0) × (length (now stands) ≡ 1024) ⌝ }
+    requires { ⌜ now rows ≡ replicate 65536 0 ⌝ }
     ensures numbers { λ r. ⌜ checkAnswer r ≡ prepareRefusal (now (network .entry)) (now (list .entry)) ⌝ }
-    ensures tables { λ r. ⌜ PreparedAfter (now (network .entry)) (now (list .entry)) r (now (rows .exit)) (now (stands .exit)) ⌝ }
+    ensures rows { λ r. ⌜ RowsAfter (formOf (now (network .entry))) (now (network .entry)) r (now (rows .entry)) (now (rows .exit)) ⌝ }
+    ensures stands { λ r. ⌜ now (stands .exit) ≡ standsAfter (now (network .entry)) (now (list .entry)) r (now (stands .entry)) ⌝ }
 {
     match check_network_rows(network, rows) {
         Check::Refused(r) => Check::Refused(r),

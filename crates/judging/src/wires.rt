@@ -1,7 +1,6 @@
 // The wires in their order, and what each gives the box that it leads to.
 ghost use mathlib.Core.Path.{_≡_};
-ghost use Prim.Native.Nat.{_+_, _<_};
-ghost use lib.ListN.{length};
+ghost use Prim.Native.Nat.{_+_};
 ghost use Rattle.lists.specs.Best.{best};
 ghost use Rattle.routes.specs.Order.{beats};
 ghost use Rattle.layout.specs.Layout.{edgePart};

@@ -1,5 +1,6 @@
 -- Empty where something is refused before the search (asked-refused), and else the part of the id (asked-named).
 use Rattle.judging.proofs.EntryLaws.{asking}
+use Rattle.judging.proofs.GivenLaws.{prepared-after}
 use borrow.Author.Needs.{needs}
 use Rattle.judging.proofs.lookup.neighbour.Statement.{statement}
 use Rattle.judging.proofs.lookup.neighbour.Tie as tie
@@ -23,7 +24,11 @@ enum-known-form : tie.Need-enum-known-form
 enum-known-form c = search (needs, asking)
 
 named-part-requires : tie.Need-named-part-requires
-named-part-requires c κs = search (needs, asking)
+named-part-requires c κs =
+    let called = c .before .before .before .before .before in
+    let slices = called .before .before .before in
+    let after = called .prepare in
+    search (needs, prepared-after _ _ (after .result) (after .ensures .0) (λ i. slices .before .shared-slice-known .given i .fits) (λ i. slices .shared-slice-known2 .given i .fits))
 
 returns : tie.Need-returns
 returns c = search (needs, asking)

@@ -1,4 +1,4 @@
--- The rows before i are in the table (Filling).
+-- The rows before i are in the table, and all else is as it was (Filling).
 use Rattle.judging.proofs.StandLaws.{Filling, filling}
 use Prim.Native.Nat.{_-_}
 use borrow.Author.Needs.{needs}
@@ -6,7 +6,7 @@ use Rattle.judging.proofs.preparing.fill_stands.Statement.{statement}
 use Rattle.judging.proofs.preparing.fill_stands.Tie as tie
 
 abbrev Inv-loop : tie.InvT-loop
-Inv-loop form network places stands₀ n i₀ stands i = Filling form network places stands n i
+Inv-loop form network places stands₀ n i₀ stands i = Filling form network places stands₀ stands n i
 
 abbrev μ-loop : tie.MeasureT-loop
 μ-loop form network places stands₀ n i₀ stands i = n - i

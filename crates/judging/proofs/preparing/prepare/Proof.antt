@@ -30,7 +30,6 @@ enter-requires c κs =
     let slices = c .before .before .before .before .before .before .before .before .before in (
       network-checked (n .result) _ (search needs) _ (n .ensures .0) (λ i. slices .before .shared-slice-known .given i .fits),
       search (needs, list-checked _ _ (n .result) (n .ensures .0) (l .result) (l .ensures) (λ i. slices .shared-slice-known2 .given i .fits)),
-      search needs,
     )
 
 returns : tie.Need-returns
