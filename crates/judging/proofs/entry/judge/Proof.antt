@@ -19,7 +19,10 @@ search-requires c κs =
     let called = c .before .before .before .before .before in
     let slices = called .before .before .before in
     let after = called .prepare in
-    search (needs, prepared-after _ _ (after .result) (after .ensures .0) (λ i. slices .before .shared-slice-known .given i .fits) (λ i. slices .shared-slice-known2 .given i .fits))
+    search (
+      needs,
+      prepared-after _ _ (after .result) (after .ensures .0) (λ i. slices .before .shared-slice-known .given i .fits) (λ i. slices .shared-slice-known2 .given i .fits),
+    )
 
 returns : tie.Need-returns
 returns c = search (needs, judging)
