@@ -15,9 +15,10 @@ use Rattle.layout.specs.declared.Check.the-variants.{Fine, Refused}
 use Rattle.layout.specs.declared.Refusal.{Refusal}
 use Rattle.reading.specs.Whole.{readNetwork, readList, networkOf, listOf}
 use Rattle.judging.specs.Judging.{judgeRecords, verdictAt}
-use Rattle.judging.specs.Neighbour.{namedPart, unlessRefused, neighbourBytes}
-use Rattle.judging.specs.Prepared.{lackingRefusal, prepareRefusal}
-use Rattle.judging.proofs.GivenLaws.{given-form}
+use Rattle.preparing.specs.Parts.{namedPart}
+use Rattle.judging.specs.Neighbour.{unlessRefused, neighbourBytes}
+use Rattle.preparing.specs.Prepared.{lackingRefusal, prepareRefusal}
+use Rattle.preparing.proofs.GivenLaws.{given-form}
 use Rattle.layout.specs.declared.Form.{Form}
 use Rattle.layout.specs.Form.{formOf}
 use Rattle.lists.proofs.Answer.{first-then, given-same}

@@ -1,15 +1,7 @@
--- What the two records say at the places that the search looks at, and what the program prints.
-pub mod Said
-pub mod PartLaws
-pub mod BoxLaws
-pub mod PreparedLaws
-pub mod StandLaws
-pub mod LookupLaws
-pub mod WireLaws
+-- The search: what is left to look at, and the two loops.
 pub mod LeftLaws
 pub mod SearchLaws
-pub mod PrepareLaws
-pub mod GivenLaws
+-- The entry points, and what the program prints.
 pub mod EntryLaws
 pub mod TextLaws
 -- A verdict by its answer; the theorems about networks, on bytes.

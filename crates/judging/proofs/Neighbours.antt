@@ -25,11 +25,12 @@ use Rattle.records.proofs.RowLaws.{ids-rise, row-within, row-found}
 use Rattle.reading.specs.Whole.{readNetwork, readList, networkOf, listOf}
 use Rattle.routes.specs.Carry.{highest}
 use Rattle.judging.specs.Judging.{judgeRecords}
-use Rattle.judging.specs.Neighbour.{rowPart, namedPart, neighbourBytes}
-use Rattle.judging.specs.Prepared.{prepareRefusal}
+use Rattle.preparing.specs.Parts.{rowPart, namedPart}
+use Rattle.judging.specs.Neighbour.{neighbourBytes}
+use Rattle.preparing.specs.Prepared.{prepareRefusal}
 use Rattle.judging.proofs.EntryLaws.{judge-is}
-use Rattle.judging.proofs.GivenLaws.{given-form, given-sound, given-formed, given-entered}
-use Rattle.judging.proofs.PartLaws.{row-long, row-route}
+use Rattle.preparing.proofs.GivenLaws.{given-form, given-sound, given-formed, given-entered}
+use Rattle.preparing.proofs.PartLaws.{row-long, row-route}
 use Rattle.lists.proofs.Answer.{then-given}
 use Rattle.layout.specs.declared.Form.{Form}
 use Rattle.layout.proofs.OneForm.{one-form, form-usable}
