@@ -4,7 +4,6 @@
 use mathlib.Core.Path.{_≡_, refl, sym, ap, _∙_}
 use mathlib.Core.List.{List, []}
 use Prim.Native.Nat.{ℕ}
-use lib.ListN.{length, replicate, length-replicate}
 use Rattle.routes.specs.declared.Route.{Route}
 use Rattle.lists.specs.Answer.{Answer, refused, andThen, given}
 use Rattle.networks.specs.Judge.{Verdict, judge, judgeTable}
@@ -16,12 +15,13 @@ use Rattle.layout.specs.declared.Check.the-variants.{Fine, Refused}
 use Rattle.layout.specs.declared.Refusal.{Refusal}
 use Rattle.reading.specs.Whole.{readNetwork, readList, networkOf, listOf}
 use Rattle.judging.specs.Judging.{judgeRecords, verdictAt}
-use Rattle.judging.specs.Neighbour.{namedPart, unlessRefused, neighbourBytes}
-use Rattle.judging.specs.Prepared.{lackingRefusal, prepareRefusal, Prepared, PreparedAfter}
-use Rattle.judging.proofs.PrepareLaws.{lacking-form}
+use Rattle.preparing.specs.Parts.{namedPart}
+use Rattle.judging.specs.Neighbour.{unlessRefused, neighbourBytes}
+use Rattle.preparing.specs.Prepared.{lackingRefusal, prepareRefusal}
+use Rattle.preparing.proofs.GivenLaws.{given-form}
 use Rattle.layout.specs.declared.Form.{Form}
 use Rattle.layout.specs.Form.{formOf}
-use Rattle.lists.proofs.Answer.{first-then, then-given, given-same}
+use Rattle.lists.proofs.Answer.{first-then, given-same}
 use Rattle.reading.specs.House.{house}
 use Rattle.routes.specs.Carry.{highest}
 use Rattle.records.proofs.Checked.{given-network}
@@ -48,14 +48,6 @@ module _ (network list : List ℕ) where
           let one : formOf list ≡ f = one-form list network ∙ own in
           rw (own, one) (lacking-is f)
 
-  -- a form that is given is the network's own
-  pub prepared-form : (f : Form) → prepareRefusal network list ≡ given f → formOf network ≡ f
-  unfolding prepareRefusal
-  prepared-form f e =
-      let n = then-given (networkRefusal network) _ f e in
-      let l = then-given (listRefusal list) _ f (n .2) in
-      given-same (sym (given-network network (n .0) (n .1)) ∙ n .1) ∙ lacking-form (n .0) f network list (l .2)
-
   module _ (c : Check) (h : checkAnswer c ≡ prepareRefusal network list) where
     pub judge-refused : (r : Refusal) → c ≡ Refused r → refusing r ≡ judgeRecords network list
     judge-refused r e =
@@ -63,10 +55,6 @@ module _ (network list : List ℕ) where
         sym (judge-is ∙ rw n)
 
     module _ (f : Form) (e : c ≡ Fine f) where
-      pub judge-prepared : (rows stands : List ℕ) → PreparedAfter network list c rows stands → Prepared f network list rows stands
-      unfolding PreparedAfter
-      judge-prepared rows stands t = t f (ap checkAnswer e)
-
       told : prepareRefusal network list ≡ given f
       told = sym h ∙ ap checkAnswer e
 
@@ -79,15 +67,12 @@ module _ (network list : List ℕ) where
       pub asked-named : (id : ℕ) (x : List ℕ) → x ≡ namedPart f network list id → x ≡ neighbourBytes network list id
       unfolding neighbourBytes verdictAt
       asked-named id x g =
-          rw (prepared-form f told) (g ∙ ap (λ (a : Answer (Verdict Route)). unlessRefused a (namedPart f network list id)) judge-verdict)
+          rw (given-form network list f told) (g ∙ ap (λ (a : Answer (Verdict Route)). unlessRefused a (namedPart f network list id)) judge-verdict)
 
     pub asked-refused : (id : ℕ) (r : Refusal) → c ≡ Refused r → [] ≡ neighbourBytes network list id
     unfolding neighbourBytes
     asked-refused id r e = ap (λ (a : Answer (Verdict Route)). unlessRefused a (namedPart (formOf network) network list id)) (judge-refused r e)
 
-pub zeros-long : length {A = ℕ} (replicate 1024 0) ≡ 1024
-zeros-long = length-replicate {A = ℕ} 1024 0
+pub ruleset judging = (judge-refused, judge-searched)
 
-pub ruleset judging = (judge-refused, judge-prepared, judge-searched, zeros-long)
-
-pub ruleset asking = (judge-prepared, asked-named, asked-refused, zeros-long)
+pub ruleset asking = (asked-named, asked-refused)

@@ -43,8 +43,8 @@ use Rattle.reading.specs.Parts.{boxAt, wireAt, promiseAt, demandAt}
 use Rattle.reading.specs.Whole.{HouseNetwork, HouseList, readNetwork, readList}
 use Rattle.routes.specs.Carry.{highest}
 use Rattle.judging.specs.Judging.{verdictAt}
-use Rattle.judging.specs.OwnBox.{faultOf}
-use Rattle.judging.specs.Wires.{givenBy, offerAt}
+use Rattle.boxes.specs.OwnBox.{faultOf}
+use Rattle.boxes.specs.Wires.{givenBy, offerAt}
 
 module _ (f : Form) (network list : List ℕ) where
   abbrev N : HouseNetwork
@@ -112,8 +112,8 @@ module _ (f : Form) (network list : List ℕ) where
     pub wire-skips : (node : ℕ) → edgeTo f network j ≤ node → Skipped j (node + 1) → Skipped (j + 1) (node + 1)
     wire-skips node m k = record { skipped = λ x g. k .skipped x g ∙ other x (λ e. omega arith) }
 
-    pub wire-due : (node : ℕ) (initial r x : Route) → edgeTo f network j ≡ node → x ≡ best beats r (offerAt f network list (edgeOffset f network j)) → Due node initial r j
-        → Due node initial x (j + 1)
+    pub wire-due : (node : ℕ) (initial r x : Route) → edgeTo f network j ≡ node → x ≡ best beats r (offerAt f network list (edgeOffset f network j))
+        → Due node initial r j → Due node initial x (j + 1)
     unfolding offerAt edgeOffset
     wire-due node initial r x e q d = record {
       is = d .is
@@ -156,7 +156,8 @@ module _ (f : Form) (network list : List ℕ) where
     left-end l = rw (rows-end (boxAt (f .route) network) (nodeWidth f) (nodePart network) (nodeCount network) i l) at (h .is)
 
     module _ (l : i < nodeCount network) where
-      here : given (verdictFrom (house highest) N L count (filterMap asOwn (boxAt (f .route) network (at (nodePart network) (nodeWidth f) i) ∷ boxesFrom (i + 1)))) ≡ verdictAt f network list
+      here : given (verdictFrom (house highest) N L count (filterMap asOwn (boxAt (f .route) network (at (nodePart network) (nodeWidth f) i) ∷ boxesFrom (i + 1))))
+          ≡ verdictAt f network list
       here = rw (rows-next (boxAt (f .route) network) (nodeWidth f) (nodePart network) (nodeCount network) i l) at (h .is)
 
       pub left-input : isOwn f network i ≡ false → Left (i + 1) count

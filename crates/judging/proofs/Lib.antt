@@ -1,14 +1,7 @@
--- What the two records say at the places that the search looks at, and what the program prints.
-pub mod Said
-pub mod PartLaws
-pub mod BoxLaws
-pub mod PreparedLaws
-pub mod StandLaws
-pub mod LookupLaws
-pub mod WireLaws
+-- The search: what is left to look at, and the two loops.
 pub mod LeftLaws
 pub mod SearchLaws
-pub mod PrepareLaws
+-- The entry points, and what the program prints.
 pub mod EntryLaws
 pub mod TextLaws
 pub mod Starts

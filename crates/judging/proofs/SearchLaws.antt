@@ -34,19 +34,19 @@ use Rattle.records.proofs.RowLaws.{row-within, row-found}
 use Rattle.layout.specs.declared.Form.{Form}
 use Rattle.reading.specs.Whole.{readList}
 use Rattle.reading.proofs.Said.{Edge, edge-parts}
-use Rattle.judging.specs.Answers.{findingOf}
+use Rattle.boxes.specs.OwnBox.{findingOf}
 use Rattle.records.specs.Checked.{CheckedNetwork}
 use Rattle.routes.specs.Carry.{highest}
 use Rattle.judging.specs.Judging.{verdictAt}
-use Rattle.judging.specs.OwnBox.{ownBoxAt, faultOf}
-use Rattle.judging.specs.Prepared.{Standing, Prepared}
-use Rattle.judging.specs.Wires.{WireAt, nextFrom, offerAt}
-use Rattle.judging.specs.declared.Fault.{Fault}
-use Rattle.judging.specs.declared.Fault.the-variants.{NoFault, FaultDue, FaultPromise, FaultDemand}
-use Rattle.judging.specs.declared.NextWire.{NextWire}
-use Rattle.judging.specs.declared.OwnBox.{OwnBox}
+use Rattle.boxes.specs.OwnBox.{ownBoxAt, faultOf}
+use Rattle.preparing.specs.Prepared.{Standing, Prepared}
+use Rattle.boxes.specs.Wires.{WireAt, nextFrom, offerAt}
+use Rattle.boxes.specs.declared.Fault.{Fault}
+use Rattle.boxes.specs.declared.Fault.the-variants.{NoFault, FaultDue, FaultPromise, FaultDemand}
+use Rattle.boxes.specs.declared.NextWire.{NextWire}
+use Rattle.boxes.specs.declared.OwnBox.{OwnBox}
 use Rattle.judging.proofs.LeftLaws.{stoppedAt, Skipped, Due, Left, skip-start, left-start, wire-skips, wire-due, to-rises, wires-past, skip-more, due-start, left-end, left-input, left-fault}
-use Rattle.judging.proofs.PreparedLaws.{prepared-standing, prepared-checked}
+use Rattle.preparing.proofs.PreparedLaws.{prepared-standing, prepared-checked}
 
 -- The next wire is the j-th, and those before it lead to boxes below lo.
 pub record Next (f : Form) (network list : List ℕ) (wire : NextWire) (lo j : ℕ) : Type 0 where
@@ -97,12 +97,17 @@ Wiring f network list rows stands n i count row node u wire = WiringFacts f netw
 least-above : (ids : ℕ → ℕ) (n r i : ℕ) → Rising ids n → r < i → i ≤ n → ids r < least ids i
 unfolding Rising least
 least-above ids n r zero h l m = absurd (not-suc-le-zero l)
-least-above ids n r (suc k) h l m = ⊎-elim (λ (e : r ≡ k). rw e (omega arith)) (λ (g : r < k). let z = h r k g (omega arith) in omega arith) (eq-or-lt-of-le (le-of-suc-le-suc l))
+least-above ids n r (suc k) h l m = ⊎-elim
+    (λ (e : r ≡ k). rw e (omega arith))
+    (λ (g : r < k). let z = h r k g (omega arith) in omega arith)
+    (eq-or-lt-of-le (le-of-suc-le-suc l))
 
 module _ (f : Form) (network : List ℕ) (checked : CheckedNetwork f network) where
   ids-rise : (i : ℕ) → i < nodeCount network → least (nodeId f network) i ≤ nodeId f network i
   unfolding nodeOk
-  ids-rise i l = leb-true _ _ (and-l (leb (least (nodeId f network) i) (nodeId f network i)) (nodeFormed (f .route) network (nodeOffset f network i)) (checked .sound .nodes i l))
+  ids-rise i l =
+      leb-true _ _
+      (and-l (leb (least (nodeId f network) i) (nodeId f network i)) (nodeFormed (f .route) network (nodeOffset f network i)) (checked .sound .nodes i l))
 
   edge : (j : ℕ) → j < edgeCount network → Edge f network j
   edge j l = edge-parts f network j (checked .sound .edges j l)
@@ -131,7 +136,9 @@ module _ (f : Form) (network : List ℕ) (checked : CheckedNetwork f network) wh
 
     above : i < to-row → nodeId f network i < edgeTo f network j
     unfolding Rising
-    above g = let z = checked .rising i to-row g (row-within f network (edgeTo f network j) to-boxed) in omega (arith, row-found f network (edgeTo f network j) to-boxed)
+    above g =
+        let z = checked .rising i to-row g (row-within f network (edgeTo f network j) to-boxed) in
+        omega (arith, row-found f network (edgeTo f network j) to-boxed)
 
     box-ahead : nodeId f network i ≤ edgeTo f network j
     box-ahead = ⊎-elim
@@ -185,7 +192,9 @@ module _ (f : Form) (network list rows stands : List ℕ) where
         pub search-input : not t ≡ true → Searching f network list rows stands n (i + 1) count wire
         unfolding Searching
         search-input y =
-            let up : least (nodeId f network) i ≤ least (nodeId f network) (i + 1) = let r = ids-rise f network checked i search-row in let e = least-next (nodeId f network) i in omega arith in
+            let r = ids-rise f network checked i search-row in
+            let e = least-next (nodeId f network) i in
+            let up : least (nodeId f network) i ≤ least (nodeId f network) (i + 1) = omega arith in
             record {
               prepared = s .prepared;
               within = omega arith;
@@ -197,7 +206,8 @@ module _ (f : Form) (network list rows stands : List ℕ) where
               ahead = λ m. input-ahead f network checked i (s .j) search-row (s .ahead) m (sym w ∙ not-true t y);
             }
 
-        pub search-wires : (own : OwnBox) → not t ≡ false → own ≡ ownBoxAt f network i → Wiring f network list rows stands n (i + 1) (count + 1) i (own .node) (own .initial) wire
+        pub search-wires : (own : OwnBox) → not t ≡ false → own ≡ ownBoxAt f network i
+            → Wiring f network list rows stands n (i + 1) (count + 1) i (own .node) (own .initial) wire
         unfolding Wiring ownBoxAt
         search-wires own y p =
             let named : own .node ≡ nodeId f network i = ap (λ (b : OwnBox). b .node) p in
@@ -221,7 +231,8 @@ module _ (f : Form) (network list rows stands : List ℕ) where
             }
 
 -- at the own box in a row
-module _ (f : Form) (network list rows stands : List ℕ) (n i count row node : ℕ) (u : Route) (wire : NextWire) (kept : Wiring f network list rows stands n i count row node u wire) where
+module _ (f : Form) (network list rows stands : List ℕ) (n i count row node : ℕ) (u : Route) (wire : NextWire)
+    (kept : Wiring f network list rows stands n i count row node u wire) where
   w : WiringFacts f network list rows stands n i count row node u wire
   unfolding Wiring
   w = kept
@@ -318,8 +329,11 @@ module _ (f : Form) (network list rows stands : List ℕ) (n i count row node : 
           (wires-past f network list (wiring-checked .bytes) (edges-rise f network wiring-checked) node (w .j) _ u (w .next .within) past (w .due)) e
 
       module _ (r : Fault) (a : findingOf r ≡ faultOf f network row (held (house highest) (readList f list) (nodeId f network row)) u) where
-        at-found : (number : ℕ) (route : Route) → some (record { number = number; route = route }) ≡ findingOf r → given (found number node route count) ≡ verdictAt f network list
-        at-found number route e = ap (λ (c : ℕ). given (found number node route c)) (w .counts) ∙ at-fault (some (record { number = number; route = route })) (e ∙ a)
+        at-found : (number : ℕ) (route : Route) → some (record { number = number; route = route }) ≡ findingOf r
+            → given (found number node route count) ≡ verdictAt f network list
+        at-found number route e =
+            ap (λ (c : ℕ). given (found number node route c)) (w .counts)
+            ∙ at-fault (some (record { number = number; route = route })) (e ∙ a)
 
         pub wiring-due : (route : Route) → r ≡ FaultDue route → given (found 31 node route count) ≡ verdictAt f network list
         wiring-due route e = at-found 31 route (ap findingOf (sym e))
@@ -333,7 +347,8 @@ module _ (f : Form) (network list rows stands : List ℕ) (n i count row node : 
         pub wiring-end : r ≡ NoFault → Searching f network list rows stands n i count wire
         unfolding Searching
         wiring-end e =
-            let up : node + 1 ≡ least (nodeId f network) i = ap (λ (m : ℕ). m + 1) (w .named) ∙ least-next (nodeId f network) row ∙ ap (least (nodeId f network)) (sym (w .behind)) in
+            let up : node + 1 ≡ least (nodeId f network) i =
+            ap (λ (m : ℕ). m + 1) (w .named) ∙ least-next (nodeId f network) row ∙ ap (least (nodeId f network)) (sym (w .behind)) in
             record {
               prepared = w .prepared;
               within = let l = w .there in let b = w .behind in omega arith;

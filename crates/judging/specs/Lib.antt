@@ -3,7 +3,3 @@ pub mod Answers
 pub mod Judging
 pub mod Neighbour
 pub mod Text
--- What the code stands on and goes by: the records and tables, the boxes and the wires.
-pub mod Prepared
-pub mod OwnBox
-pub mod Wires

@@ -1,16 +1,11 @@
 // Judging: the first fault of a proposal by rising id, or a pass; and the line that says it.
-mod at_box;
 mod entry;
-mod lookup;
-mod preparing;
 mod search;
 mod text;
-mod wires;
 
 pub use entry::judge;
+pub use entry::neighbour;
 use layout::Refusal;
-pub use lookup::neighbour;
-pub use preparing::prepare;
 use routes::Route;
 pub use text::LONGEST;
 pub use text::judge_bytes;
@@ -30,25 +25,4 @@ pub enum Verdict {
     PromiseBroken(Finding),
     DemandUnmet(Finding),
     Refused(Refusal),
-}
-
-// What is wrong at one box, first the due route, then the promise, then the demand.
-pub enum Fault {
-    NoFault,
-    FaultDue(Route),
-    FaultPromise(Route),
-    FaultDemand(Route),
-}
-
-// An own box with its initial route.
-pub struct OwnBox {
-    pub node: u16,
-    pub initial: Route,
-}
-
-// The wire that is looked at next: its offset, and its to end, which is read once. Behind the last wire the to end is 65,536,
-// which is no id.
-pub struct NextWire {
-    pub at: usize,
-    pub to: usize,
 }

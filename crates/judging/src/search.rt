@@ -1,19 +1,17 @@
 // The search for the first fault.
 ghost use mathlib.Core.Path.{_≡_};
 ghost use Prim.Native.Nat.{_<_};
-ghost use Rattle.layout.specs.Layout.{Room, nodeCount};
 ghost use Rattle.judging.specs.Answers.{answerOf};
 ghost use Rattle.judging.specs.Judging.{verdictAt};
-ghost use Rattle.judging.specs.OwnBox.{ownBoxAt};
-ghost use Rattle.judging.specs.Prepared.{Prepared};
-use crate::Fault;
+ghost use Rattle.preparing.specs.Prepared.{Prepared};
 use crate::Finding;
-use crate::OwnBox;
 use crate::Verdict;
-use crate::at_box::fault_at;
-use crate::wires::first_wire;
-use crate::wires::over_wire;
-use crate::wires::wire_behind;
+use boxes::Fault;
+use boxes::fault_at;
+use boxes::first_wire;
+use boxes::over_wire;
+use boxes::own_box;
+use boxes::wire_behind;
 use layout::Form;
 use layout::NODES_FIELD;
 use layout::ROWS;
@@ -22,18 +20,6 @@ use nodes::is_own;
 use numbers::u16_at;
 use numbers::wide16;
 use routes::route_at;
-
-// The own box in a row.
-fn own_box(form: Form, network: &[u8], row: usize) -> OwnBox
-    requires { ⌜ Room form (now network) × (row < nodeCount (now network)) ⌝ }
-    ensures { λ r. ⌜ r ≡ ownBoxAt form (now (network .entry)) row ⌝ }
-{
-    let at = node_offset(form, network, row);
-    OwnBox {
-        node: u16_at(network, at),
-        initial: route_at(form.route, network, at + 3),
-    }
-}
 
 // The first fault by rising id, or a pass. Wires stand by their to end, which is an own box, so that those into a box are the
 // next ones: where the next wire leads elsewhere the box is due what it has, and is judged.

@@ -1,7 +1,7 @@
 -- Outer loop: the verdict from here is the verdict from the start (Searching). Inner loop: what the wires that are left make of
 -- the route is the due route (Wiring). Each way out is one law of SearchLaws.
 use Rattle.judging.proofs.SearchLaws.{Searching, Wiring, searching, wiring, wiring-prepared, wiring-standing, wiring-checked, wiring-row, wiring-own, wiring-wire}
-use Rattle.judging.proofs.PreparedLaws.{prepared}
+use Rattle.preparing.proofs.PreparedLaws.{prepared}
 use Prim.Native.Nat.{_-_}
 use lib.ListN.{length}
 use borrow.Author.Needs.{needs}

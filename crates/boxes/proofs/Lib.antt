@@ -1,0 +1,5 @@
+-- An own box and its first fault, and the wires one after another.
+pub mod BoxLaws
+pub mod WireLaws
+-- A fault by its finding.
+pub mod Faults

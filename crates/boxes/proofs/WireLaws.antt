@@ -1,0 +1,182 @@
+-- The wires as the code reads them: the one at an offset, the one behind it, and what each gives.
+--     wire-froms, wire-behinds, wire-firsts     from one wire to the next
+--     trans-at                                  what a wire makes of a route, by its policy
+--     offers, over-is                           what a wire gives, by its sender's route
+use mathlib.Core.Path.{_≡_, sym, ap, ap₂, _∙_}
+use mathlib.Core.Bool.{true}
+use mathlib.Core.List.{List}
+use mathlib.Core.Logic.{⊎-elim}
+use mathlib.Core.Option.{some}
+use Prim.Native.Nat.{ℕ, zero, suc, _+_, _^_, _≤_, _<_, zero-le}
+use native.Mathlib.Omega.{arith}
+use lib.ListN.{length, getD, getElem?}
+use mir.Syntax.{w64}
+use mir.Val.{Fits}
+use borrow.Author.Tests.{lt-ltb, le-ltb}
+use Rattle.lists.specs.Best.{best}
+use Rattle.lists.specs.Rows.{rows}
+use Rattle.lists.specs.Stride.{at}
+use Rattle.lists.proofs.Stride.{at-zero, at-shift}
+use Rattle.lists.proofs.Test.{le-or-lt}
+use Rattle.numbers.specs.BigEndian.{u16At}
+use Rattle.routes.specs.Carry.{carried, highest}
+use Rattle.routes.specs.Form.{routeAt, policyAt}
+use Rattle.routes.specs.Order.{beats}
+use Rattle.routes.specs.declared.Policy.{Policy}
+use Rattle.routes.specs.declared.Route.{Route}
+use Rattle.reading.specs.House.{house}
+use Rattle.networks.specs.Solution.{mapping, trans}
+use Rattle.records.specs.Edge.{boxed, edgeFrom, edgePolicy}
+use Rattle.layout.specs.Form.{Usable}
+use Rattle.layout.specs.Layout.{nodeCount, edgeCount, policyOffset, policyCount, edgePart, edgeOffset}
+use Rattle.nodes.specs.Node.{rowOf}
+use Rattle.layout.proofs.Places.{edge-first, edge-after, edge-room, policy-room}
+use Rattle.records.proofs.RowLaws.{row-within, row-found}
+use Rattle.layout.specs.declared.Form.{Form}
+use Rattle.reading.specs.Parts.{wireAt}
+use Rattle.reading.specs.Whole.{readNetwork, readList}
+use Rattle.reading.proofs.Said.{Edge, edge-parts}
+use Rattle.records.specs.Checked.{CheckedNetwork}
+use Rattle.preparing.specs.Parts.{rowPart}
+use Rattle.preparing.specs.Prepared.{Listed, Prepared}
+use Rattle.boxes.specs.Wires.{WireAt, WireEnd, nextFrom, offerAt}
+use Rattle.boxes.specs.declared.NextWire.{NextWire}
+use Rattle.preparing.proofs.PartLaws.{row-long, row-route}
+use Rattle.preparing.proofs.PreparedLaws.{prepared-listed}
+
+-- the wire at an offset
+module _ (f : Form) (network : List ℕ) (h : CheckedNetwork f network) (o : ℕ) where
+  pub wire-none : length network ≤ o → record { at = o; to = 65536 } ≡ nextFrom network o
+  unfolding nextFrom
+  wire-none l = rw (le-ltb o (length network) l)
+
+  pub wire-some : (t u : ℕ) → o < length network → t ≡ u → u ≡ u16At network o → record { at = o; to = t } ≡ nextFrom network o
+  unfolding nextFrom
+  wire-some t u l p q = rw (lt-ltb o (length network) l, p, q)
+
+  -- where the record does not end, a wire stands
+  pub wire-there : WireEnd f network o → o < length network → WireAt f network o
+  wire-there w m = ⊎-elim
+      (λ (l : edgeCount network ≤ w .row). let k : w .row ≡ edgeCount network = let u = w .there in omega arith in
+      absurd (omega (arith, w .at ∙ ap (edgeOffset f network) k, h .sound .whole)))
+      (λ (l : w .row < edgeCount network). record { row = w .row; there = l; at = w .at })
+      (le-or-lt (edgeCount network) (w .row))
+
+  wire-in : WireAt f network o → o + 5 ≤ length network
+  wire-in w = let e = w .at in omega (arith, edge-room f network (h .room) (w .row) (w .there))
+
+  pub wire-read : WireEnd f network o → o < length network → o + 2 ≤ length network
+  wire-read w m = omega (arith, wire-in (wire-there w m))
+
+  pub wire-fits : WireAt f network o → length network < 2 ^ 64 → Fits w64 (o + 5)
+  wire-fits w g = omega (arith, wire-in w)
+
+  pub wire-behind : WireAt f network o → WireEnd f network (o + 5)
+  wire-behind w = record {
+    row = w .row + 1;
+    there = let l = w .there in omega arith;
+    at = ap (λ (k : ℕ). k + 5) (w .at) ∙ sym (edge-after f network (w .row));
+  }
+
+pub ruleset wire-froms = (wire-none, wire-some, wire-read)
+
+pub ruleset wire-behinds = (wire-fits, wire-behind)
+
+-- the first wire
+module _ (f : Form) (network : List ℕ) (o : ℕ) (e : o ≡ edgeOffset f network 0) where
+  pub first-usable : CheckedNetwork f network → Usable f
+  first-usable h = h .room .usable
+
+  pub first-long : CheckedNetwork f network → 10 ≤ length network
+  first-long h = h .room .long
+
+  pub first-end : WireEnd f network o
+  first-end = record { row = 0; there = zero-le; at = e }
+
+  pub first-is : (w : NextWire) → w ≡ nextFrom network o → w ≡ nextFrom network (edgePart f network)
+  first-is w q = q ∙ ap (nextFrom network) (e ∙ edge-first f network)
+
+pub ruleset wire-firsts = (first-usable, first-long, first-end, first-is)
+
+-- a row of a table by its place
+rows-element : {A : Type 0} (value : ℕ → A) (width offset n i : ℕ) → i < n → getElem? (rows value width offset n) i ≡ some (value (at offset width i))
+rows-element value width offset zero i l = absurd (omega arith)
+rows-element value width offset (suc n) zero l = ap (λ (o : ℕ). some (value o)) (sym (at-zero offset width))
+rows-element value width offset (suc n) (suc i) l =
+    rows-element value width (offset + width) n i (omega arith) ∙ ap (λ (o : ℕ). some (value o)) (sym (at-shift offset width i))
+
+-- what the wire at an offset makes of a route
+trans-at : (f : Form) (network : List ℕ) (o : ℕ) (r : Route) → getD network (o + 4) 0 < policyCount network
+    → trans (house highest) (readNetwork f network) (wireAt network o) r ≡ carried highest (policyAt network (policyOffset (getD network (o + 4) 0))) r
+unfolding readNetwork wireAt policyOffset
+trans-at f network o r l = rw (rows-element (policyAt network) 13 10 (policyCount network) (getD network (o + 4) 0) l)
+
+-- what a wire gives
+module _ (f : Form) (network list rows stands : List ℕ) (h : Prepared f network list rows stands) (o : ℕ) (w : WireAt f network o) where
+  listed : Listed f network list
+  listed = prepared-listed f network list rows stands h
+
+  within : o + 5 ≤ length network
+  within = wire-in f network (listed .checked) o w
+
+  edge : Edge f network (w .row)
+  edge = edge-parts f network (w .row) (listed .checked .sound .edges (w .row) (w .there))
+
+  pub offer-from-room : o + 2 + 2 ≤ length network
+  offer-from-room = omega (arith, within)
+
+  pub offer-policy-room : o + 4 < length network
+  offer-policy-room = omega (arith, within)
+
+  pub offer-from-fits : length network < 2 ^ 64 → Fits w64 (o + 2)
+  offer-from-fits g = omega (arith, within)
+
+  pub offer-policy-fits : length network < 2 ^ 64 → Fits w64 (o + 4)
+  offer-policy-fits g = omega (arith, within)
+
+  pub offer-wide : 9 ≤ f .route
+  offer-wide = listed .checked .room .usable .wide
+
+  policy-there : getD network (o + 4) 0 < policyCount network
+  unfolding edgePolicy
+  policy-there = rw (w .at) (edge .policy-there)
+
+  pub offer-policy : (k p : ℕ) → k ≡ getD network (o + 4) 0 → p ≡ policyOffset k → p + 13 ≤ length network
+  offer-policy k p q v = rw v (policy-room f network (listed .checked .room) k (rw q policy-there))
+
+  -- the sender
+  module _ (id : ℕ) (q : id ≡ u16At network (o + 2)) where
+    pub offer-sender : boxed f network id ≡ true
+    unfolding edgeFrom
+    offer-sender = rw (q, w .at) (edge .from-there)
+
+    module _ (x : List ℕ) (g : x ≡ rowPart f network list (rowOf f network id)) where
+      sender-row : rowOf f network id < nodeCount network
+      sender-row = row-within f network id offer-sender
+
+      pub offer-part-room : 0 + f .route ≤ length x
+      offer-part-room =
+          let e = ap length g ∙ row-long f network list _ (listed .checked .room) (listed .entries .formed) sender-row (listed .entered _ sender-row) in
+          omega arith
+
+      sender-route : routeAt (f .route) x 0 ≡ mapping (house highest) (readNetwork f network) (readList f list) id
+      sender-route =
+          ap (λ (b : List ℕ). routeAt (f .route) b 0) g
+          ∙ row-route f network list _ (listed .checked .room) (listed .entries .formed) sender-row (listed .entered _ sender-row) (listed .checked .rising)
+          ∙ ap (mapping (house highest) (readNetwork f network) (readList f list)) (row-found f network id offer-sender)
+
+      -- and the policy
+      module _ (k p : ℕ) (c : Policy) (v : k ≡ getD network (o + 4) 0) (z : p ≡ policyOffset k) where
+        pub offer-is : (r s : Route) → c ≡ policyAt network p → r ≡ routeAt (f .route) x 0 → s ≡ carried 65535 c r → s ≡ offerAt f network list o
+        unfolding offerAt wireAt
+        offer-is r s d y t =
+            t ∙ ap₂ (carried 65535)
+            (d ∙ ap (policyAt network) (z ∙ ap policyOffset v))
+            (y ∙ sender-route ∙ ap (mapping (house highest) (readNetwork f network) (readList f list)) q)
+            ∙ sym (trans-at f network o _ policy-there)
+
+pub ruleset offers = (offer-from-room, offer-policy-room, offer-from-fits, offer-policy-fits, offer-wide, offer-sender, offer-part-room, offer-policy, offer-is)
+
+pub over-is : (f : Form) (network list : List ℕ) (o : ℕ) (u s x : Route) → s ≡ offerAt f network list o → x ≡ best beats u s
+    → x ≡ best beats u (offerAt f network list o)
+over-is f network list o u s x p q = q ∙ ap (best beats u) p
