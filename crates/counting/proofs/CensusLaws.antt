@@ -5,13 +5,13 @@
 --     pass-census       all of it, behind the judge's line
 use mathlib.Core.Path.{_≡_, refl, sym, ap, ap₂, _∙_, fun-ext}
 use mathlib.Core.Bool.{Bool, true, false, cond}
-use mathlib.Core.List.{List, [], _++_, map, filterMap, filterMap-filterMap}
+use mathlib.Core.List.{List, [], _++_, filterMap, filterMap-filterMap}
 use mathlib.Core.Option.{Option, none, some, bind}
 use Prim.Native.Nat.{ℕ}
 use lib.ListN.{length}
 use Rattle.lists.specs.Answer.{isSome}
 use Rattle.lists.specs.Filter.{filter, holds}
-use Rattle.lists.specs.Gather.{joined, gathered, laidOption}
+use Rattle.lists.specs.Gather.{joined, laidOption}
 use Rattle.lists.specs.Rows.{laidRows}
 use Rattle.lists.specs.Stride.{at}
 use Rattle.lists.proofs.Filter.{length-kept, length-images, map-filter}
@@ -20,7 +20,7 @@ use Rattle.routes.specs.Carry.{highest}
 use Rattle.routes.specs.declared.Demand.{Demand}
 use Rattle.routes.specs.declared.Route.{Route}
 use Rattle.networks.specs.Network.{Own, Input, Box, own, input, boxId, asOwn, asInput, ownBoxes, inputs}
-use Rattle.networks.specs.Silence.{Census, census, isRoute, silent, overlooked, promisesIn}
+use Rattle.networks.specs.Silence.{Census, census, isRoute, silent, overlooked}
 use Rattle.layout.specs.Form.{nodeWidth}
 use Rattle.layout.specs.Layout.{nodeCount, nodePart, nodeOffset}
 use Rattle.layout.specs.declared.Form.{Form}
@@ -114,7 +114,13 @@ module _ (f : Form) (network list : List ℕ) where
 
   pub tally-census : (boxes : ℕ) → boxes ≡ length (ownBoxes N)
       → tallyOf f network list boxes ≡ record {
-        boxes = taken .boxes; holding = taken .holding; inputs = taken .inputs; assumed = taken .assumed; promises = taken .promises; promised = taken .promised; asked = taken .asked;
+        boxes = taken .boxes;
+        holding = taken .holding;
+        inputs = taken .inputs;
+        assumed = taken .assumed;
+        promises = taken .promises;
+        promised = taken .promised;
+        asked = taken .asked;
       }
   unfolding tallyOf census
   tally-census boxes e = rw (e, ← holding-is, ← inputs-is, ← assumed-is, ← promises-is, ← promised-is, ← asked-is)

@@ -4,6 +4,7 @@
 --     carrying                   whether the node in a row holds one
 --     promising-routes           whether a promise is of a route
 --     asking-routes, asking-none what a demand asks
+--     offsets                    where a node stands
 --     overlooking                silence that nobody asked for
 --     owning, assuming, rowing   an own box, an input, a row
 --     Counting, countings        the loop over the rows
@@ -33,7 +34,8 @@ use Rattle.routes.specs.declared.Route.the-variants.{None, Held}
 use Rattle.networks.specs.Silence.{isRoute}
 use Rattle.networks.specs.Solution.{mapping}
 use Rattle.layout.proofs.Places.{node-fields-room}
-use Rattle.layout.specs.Layout.{Room, nodeCount, nodeOffset}
+use Rattle.layout.specs.Form.{Usable}
+use Rattle.layout.specs.Layout.{nodeCount, nodeOffset}
 use Rattle.layout.specs.declared.Form.{Form}
 use Rattle.nodes.specs.Node.{nodeId, isOwn, promising, demandOf}
 use Rattle.reading.proofs.Said.{own-row, input-row, demand-row}
@@ -42,11 +44,11 @@ use Rattle.reading.specs.House.{house}
 use Rattle.reading.specs.Parts.{promiseAt, demandAt}
 use Rattle.reading.specs.Rows.{ownIn, inputIn}
 use Rattle.reading.specs.Whole.{readNetwork, readList}
-use Rattle.judging.specs.Neighbour.{rowPart}
-use Rattle.judging.specs.Prepared.{Listed, Standing}
-use Rattle.judging.proofs.PartLaws.{row-long, row-route}
-use Rattle.judging.proofs.PreparedLaws.{standing-listed, standing-room}
-use Rattle.judging.proofs.Said.{mapping-own, mapping-input}
+use Rattle.preparing.specs.Parts.{rowPart}
+use Rattle.preparing.specs.Prepared.{Listed, Standing}
+use Rattle.preparing.proofs.PartLaws.{row-long, row-route}
+use Rattle.preparing.proofs.PreparedLaws.{standing-listed, standing-room}
+use Rattle.preparing.proofs.Said.{mapping-own, mapping-input}
 use Rattle.counting.specs.Counted.{ownCounted, inputCounted, counted, countedAt, countedIn}
 use Rattle.counting.specs.declared.Counted.{Counted}
 use Rattle.counting.specs.declared.Counted.the-variants.{Holding, Inputs, Assumed, Promises, Promised, Asked, Silent}
@@ -77,6 +79,15 @@ module _ (f : Form) (network list stands : List ℕ) (h : Standing f network lis
   module _ (i : ℕ) (l : i < nodeCount network) where
     abbrev held : Route
     held = mapping (house highest) (readNetwork f network) (readList f list) (nodeId f network i)
+
+    pub carry-usable : Usable f
+    carry-usable = listed .checked .room .usable
+
+    pub carry-head : 10 ≤ length network
+    carry-head = listed .checked .room .long
+
+    pub carry-small : i ≤ 65535
+    carry-small = let r = listed .checked .room .few in let u = carry-usable .few in omega arith
 
     pub carry-node-room : (o : ℕ) → o ≡ nodeOffset f network i → o + (9 + f .route + f .route) ≤ length network
     carry-node-room o e = omega (arith, node-fields-room f network (listed .checked .room) i l)
@@ -148,6 +159,16 @@ pub ruleset asking-routes = (route-nothing, route-hold, route-none)
 
 pub ruleset asking-none = (none-nothing, none-hold, none-none)
 
+-- what is counted of inputs alone
+module _ (what : Counted) (f : Form) (network list : List ℕ) (i : ℕ) where
+  pub own-inputs : what ≡ Inputs → false ≡ ownCounted what (readList f list) (ownIn f network i)
+  unfolding ownCounted
+  own-inputs w = rw w
+
+  pub own-assumed : what ≡ Assumed → false ≡ ownCounted what (readList f list) (ownIn f network i)
+  unfolding ownCounted
+  own-assumed w = rw w
+
 -- an own box in a row
 module _ (f : Form) (network list stands : List ℕ) (h : Standing f network list stands) (i : ℕ) (l : i < nodeCount network) where
   module _ (own : isOwn f network i ≡ true) where
@@ -155,28 +176,23 @@ module _ (f : Form) (network list stands : List ℕ) (h : Standing f network lis
     unfolding ownCounted
     holds-listed t e = e ∙ ap there (mapping-own f network list (listed f network list stands h .checked .rising) i l own)
 
+    abbrev silence : Bool
+    silence = same (Judge·held (house highest) (readList f list) (nodeId f network i)) None
+
     module _ (t : Bool) (e : t ≡ there (held f network list stands h i l)) where
       pub overlooked-off : t ≡ true → false ≡ ownCounted Silent (readList f list) (ownIn f network i)
       unfolding ownCounted
-      overlooked-off q = let s = not-true _ (sym (holds-listed t e) ∙ q) in rw s
+      overlooked-off q = let s = not-true silence (sym (holds-listed t e) ∙ q) in rw s
 
       pub overlooked-on : (o : ℕ) (u : Bool) → t ≡ false → o ≡ nodeOffset f network i → u ≡ asksNone (demandAt network (o + 4 + f .route + f .route))
           → not u ≡ ownCounted Silent (readList f list) (ownIn f network i)
       unfolding ownCounted
-      overlooked-on o u q z y = let s = not-false _ (sym (holds-listed t e) ∙ q) in rw (s, ← z) (ap not y)
+      overlooked-on o u q z y = let s = not-false silence (sym (holds-listed t e) ∙ q) in rw (s, ← z) (ap not y)
 
       pub own-holding : (what : Counted) → what ≡ Holding → t ≡ ownCounted what (readList f list) (ownIn f network i)
       own-holding what w = rw w (holds-listed t e)
 
     module _ (what : Counted) (t : Bool) where
-      pub own-inputs : what ≡ Inputs → false ≡ ownCounted what (readList f list) (ownIn f network i)
-      unfolding ownCounted
-      own-inputs w = rw w
-
-      pub own-assumed : what ≡ Assumed → false ≡ ownCounted what (readList f list) (ownIn f network i)
-      unfolding ownCounted
-      own-assumed w = rw w
-
       pub own-silent : what ≡ Silent → t ≡ ownCounted Silent (readList f list) (ownIn f network i) → t ≡ ownCounted what (readList f list) (ownIn f network i)
       own-silent w e = rw w e
 
@@ -235,13 +251,22 @@ module _ (f : Form) (network list stands : List ℕ) (h : Standing f network lis
     unfolding countedAt
     row-input t e = e ∙ ap (counted what (readList f list)) (sym (input-row f network i other))
 
-pub ruleset overlooking = (standing-room, carry-node-room, overlooked-off, overlooked-on)
+pub ruleset offsets = (carry-usable, carry-head, carry-small)
 
-pub ruleset owning = (standing-room, carry-wide, carry-node-room, own-holding, own-inputs, own-assumed, own-silent, own-promises, own-promised, own-asked)
+pub ruleset overlooking = (carry-node-room, overlooked-off, overlooked-on)
+
+pub ruleset owning = (carry-wide, carry-node-room, own-holding, own-inputs, own-assumed, own-silent, own-promises, own-promised, own-asked)
 
 pub ruleset assuming = (input-holding, input-inputs, input-assumed, input-promises, input-promised, input-asked, input-silent)
 
-pub ruleset rowing = (standing-room, row-own, row-input)
+module _ (f : Form) (network : List ℕ) (i : ℕ) (t : Bool) (q : t ≡ isOwn f network i) where
+  pub row-ours : t ≡ true → isOwn f network i ≡ true
+  row-ours e = sym q ∙ e
+
+  pub row-theirs : t ≡ false → isOwn f network i ≡ false
+  row-theirs e = sym q ∙ e
+
+pub ruleset rowing = (standing-room, row-ours, row-theirs, row-own, row-input)
 
 -- what the loop over the rows knows
 pub record Counting (f : Form) (network list : List ℕ) (what : Counted) (n i so-far : ℕ) : Type 0 where
@@ -253,9 +278,9 @@ module _ (f : Form) (network list : List ℕ) (what : Counted) (n : ℕ) where
   counting-start = record { within = omega arith; counts = count-none _ }
 
   module _ (i so-far : ℕ) (s : Counting f network list what n i so-far) where
-    pub counting-end : n ≤ i → n ≡ nodeCount network → so-far ≡ countedIn f network list what
+    pub counting-end : (m : ℕ) → n ≤ i → n ≡ m → m ≡ nodeCount network → so-far ≡ countedIn f network list what
     unfolding countedIn
-    counting-end l q = let e : i ≡ nodeCount network = let w = s .within in omega arith in s .counts ∙ ap (count (countedAt f network list what)) e
+    counting-end m l p q = let e : i ≡ nodeCount network = let w = s .within in omega arith in s .counts ∙ ap (count (countedAt f network list what)) e
 
     module _ (l : i < n) (t : Bool) (one : ℕ) (q : t ≡ countedAt f network list what i) (e : one ≡ cond t 1 0) where
       one-small : (u : Bool) → cond u 1 0 ≤ 1
@@ -268,4 +293,10 @@ module _ (f : Form) (network list : List ℕ) (what : Counted) (n : ℕ) where
       pub counting-next : Counting f network list what n (i + 1) (so-far + one)
       counting-next = record { within = omega arith; counts = rw (s .counts, e, q) (sym (count-next (countedAt f network list what) i)) }
 
-pub ruleset countings = (standing-room, counting-start, counting-end, counting-fits, counting-next)
+pub counting-head : (f : Form) (network list stands : List ℕ) → Standing f network list stands → 5 + 2 ≤ length network
+counting-head f network list stands h = let r = standing-room f network list stands h .long in omega arith
+
+pub counting-row : (i n m c : ℕ) → i < n → n ≡ m → m ≡ c → i < c
+counting-row i n m c l p q = omega arith
+
+pub ruleset countings = (counting-head, counting-row, counting-start, counting-end, counting-fits, counting-next)

@@ -3,7 +3,7 @@ ghost use mathlib.Core.Path.{_≡_};
 ghost use lib.ListN.{length};
 ghost use Rattle.lists.specs.Laid.{placed};
 ghost use Rattle.judging.specs.Answers.{answerOf};
-ghost use Rattle.judging.specs.Prepared.{Prepared, Standing};
+ghost use Rattle.preparing.specs.Prepared.{Prepared, Standing};
 ghost use Rattle.judging.specs.Text.{verdictLine};
 ghost use Rattle.judging.specs.Judging.{verdictAt};
 ghost use Rattle.counting.specs.Rows.{passRows};
@@ -13,7 +13,6 @@ use crate::text::put_census;
 use crate::text::tally;
 use judging::Verdict;
 use judging::longest_input;
-use judging::prepare;
 use judging::search;
 use judging::verdict_line;
 use layout::Check;
@@ -22,6 +21,7 @@ use layout::ROWS;
 use lines::Line;
 use lines::first_length;
 use lines::place_line;
+use preparing::prepare;
 
 // Places the census of a pass at the start of out where it fits, and answers its length.
 fn place_pass<'a>(

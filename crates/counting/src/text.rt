@@ -7,8 +7,8 @@ ghost use lib.ListN.{length};
 ghost use Rattle.lists.specs.Gather.{joined};
 ghost use Rattle.layout.specs.Layout.{nodeCount};
 ghost use Rattle.lines.specs.Written.{Written};
-ghost use Rattle.judging.specs.Prepared.{Standing};
-ghost use Rattle.counting.specs.Lines.{shareLine, tallyOf, countLines};
+ghost use Rattle.preparing.specs.Prepared.{Standing};
+ghost use Rattle.counting.specs.Lines.{shareLine, silentLine, tallyOf, countLines};
 ghost use Rattle.counting.specs.Rows.{silentRow, passRows};
 use crate::Counted;
 use crate::Tally;
@@ -72,7 +72,17 @@ fn put_counts(tally: Tally, room: &mut [u8], at: usize) -> usize
     put_word(b"\n", room, next)
 }
 
-// `silent ID`, where the box in a row holds none though nobody asked for it.
+// `silent ID`
+fn put_name(id: usize, room: &mut [u8], at: usize) -> usize
+    requires { ⌜ at + 28 < 2 ^ 64 ⌝ }
+    ensures { λ r. ⌜ Written (silentLine id) (now (room .entry)) at (now (room .exit)) r × (r ≤ at + 28) ⌝ }
+{
+    let next = put_word(b"silent", room, at);
+    let next = add_numbers(&[id], room, next);
+    put_word(b"\n", room, next)
+}
+
+// The line of the box in a row, where it holds none though nobody asked for it.
 fn put_silent<'a>(
     form: Form,
     network: &'a [u8],
@@ -88,9 +98,7 @@ fn put_silent<'a>(
     if !is_counted(form, network, list, stands, Counted::Silent, i) {
         return at;
     }
-    let next = put_word(b"silent", room, at);
-    let next = add_numbers(&[wide16(node_id(form, network, i))], room, next);
-    put_word(b"\n", room, next)
+    put_name(wide16(node_id(form, network, i)), room, at)
 }
 
 // These lines, by rising id.

@@ -4,7 +4,7 @@ ghost use Rattle.judging.specs.Answers.{answerOf};
 ghost use Rattle.judging.specs.Judging.{judgeRecords};
 ghost use Rattle.judging.specs.Neighbour.{neighbourBytes};
 use crate::Verdict;
-use crate::search::search;
+use crate::first_fault::search;
 use layout::Check;
 use layout::ROWS;
 use preparing::named_part;

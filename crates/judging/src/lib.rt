@@ -1,15 +1,17 @@
 // Judging: the first fault of a proposal by rising id, or a pass; and the line that says it.
 mod entry;
-mod search;
+mod first_fault;
 mod text;
 
 pub use entry::judge;
 pub use entry::neighbour;
+pub use first_fault::search;
 use layout::Refusal;
 use routes::Route;
 pub use text::LONGEST;
 pub use text::judge_bytes;
 pub use text::longest_input;
+pub use text::verdict_line;
 
 // What is named of a box with a fault: the judged count includes it.
 pub struct Finding {

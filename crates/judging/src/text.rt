@@ -36,7 +36,7 @@ fn finding_line(number: usize, finding: Finding) -> Line
 }
 
 // The line of a verdict.
-fn verdict_line(verdict: Verdict) -> Line
+pub fn verdict_line(verdict: Verdict) -> Line
     ensures { λ r. ⌜ lineBytes r ≡ verdictLine (answerOf verdict) ⌝ }
 {
     match verdict {

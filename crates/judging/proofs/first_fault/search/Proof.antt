@@ -5,8 +5,8 @@ use Rattle.preparing.proofs.PreparedLaws.{prepared}
 use Prim.Native.Nat.{_-_}
 use lib.ListN.{length}
 use borrow.Author.Needs.{needs}
-use Rattle.judging.proofs.search.search.Statement.{statement}
-use Rattle.judging.proofs.search.search.Tie as tie
+use Rattle.judging.proofs.first_fault.search.Statement.{statement}
+use Rattle.judging.proofs.first_fault.search.Tie as tie
 
 abbrev Inv-loop : tie.InvT-loop
 Inv-loop form network list rows stands n i count wire₀ row node due₀ wire due = Wiring form network list rows stands n i count row node due wire
