@@ -1,46 +1,50 @@
 -- What a pass carried. Silence passes exactly where nothing starts, gets in, is promised or is asked for; what is asked for is carried; and
 -- counts of own boxes add up over fragments, since each own box is in one fragment and keeps its id and its demand there.
 --     silence-passes, silent-list-passes, empty-pass     the list that holds no route anywhere
+--     quiet-counts, counts-quiet                         what a census says of whether such a list can pass
 --     holding-none                                       a census of an empty pass
 --     asked-hold, none-silent, asked-holding             demands to hold a route
 --     told-silent, accounted                             demands to hold none, and whose silence is left
---     silent-part, census-adds-up                        fragments and whole
+--     silent-part, census-adds-up, cut-adds-up           fragments and whole
 use mathlib.Core.Path.{_≡_, refl, sym, ap, _∙_, fun-ext}
-use mathlib.Core.Bool.{Bool, true, false, not, _&&_, false≢true}
+use mathlib.Core.Bool.{Bool, true, false, cond, not, false≢true}
 use mathlib.Core.Logic.{_↔_}
-use mathlib.Core.List.{List, map, map-map}
+use mathlib.Core.List.{List, [], _∷_, map, map-map}
 use mathlib.Core.Option.{Option, none, some, Option·getD}
 use Prim.Native.Nat.{ℕ, _+_, _≤_, _<_}
 use native.Mathlib.Omega.{arith}
 use lib.Dec.{eqb}
 use lib.ListN.{length, length-map}
 use borrow.Author.Tests.{not-true, not-false}
-use Rattle.lists.specs.All.{All}
+use Rattle.lists.specs.All.{All, any}
 use Rattle.lists.proofs.All.{all-map, all-both, all-of}
-use Rattle.lists.specs.Answer.{isSome}
+use Rattle.lists.specs.Answer.{Answer, given, andThen, isSome, row}
 use Rattle.lists.specs.Filter.{filter}
-use Rattle.lists.proofs.Filter.{filter-congr, filter-filter, filter-all, all-filter, all-filterMap, filterMap-all}
+use Rattle.lists.proofs.Filter.{filter-congr, filter-filter, filter-all, filter-none, all-filter, all-filterMap, filterMap-all}
+use Rattle.lists.specs.Test.{firstOf}
 use Rattle.lists.proofs.Test.{and-absorb}
 use Rattle.networks.specs.Algebra.{Algebra, Choice}
-use Rattle.networks.specs.Network.{Own, NetworkOver, ownBoxes, inputs}
+use Rattle.networks.specs.Network.{Own, Input, NetworkOver, ownBoxes, inputs}
 use Rattle.networks.specs.Sound.{Bounds, Sound}
 use Rattle.networks.specs.Sheets.{Sheet, RouteList, number, listed}
-use Rattle.networks.specs.Solution.{mapping, Solution, Demands}
-use Rattle.networks.specs.Judge.{pass, held, fault, Passes}
-use Rattle.networks.specs.Cut.{only, promisingOwn, fragment, numbered}
+use Rattle.networks.specs.Solution.{trans, mapping}
+use Rattle.networks.specs.Judge.{pass, held, Passes}
+use Rattle.networks.specs.Cut.{only, promisingOwn, fragment, numbered, Cuts}
 use Rattle.networks.specs.Counts.{sum}
-use Rattle.networks.specs.Silence.{Asking, silent, overlooked, census, told, AddsUp, Empty, ListsNone, silentList, Quiet}
+use Rattle.networks.specs.Silence.{Asking, Census, nobody, counted, AddsUp, isRoute, silent, overlooked, promisesIn, census, told, censusIn}
+use Rattle.networks.specs.Silence.{Empty, ListsNone, silentList, Quiet}
 use Rattle.networks.proofs.Laws.Counts.{sum-numbers, filter-swap, filter-mapped, count-none, count-within, count-split}
 use Rattle.networks.proofs.Laws.Boxes.{input-there}
+use Rattle.networks.proofs.Laws.Cutting.{cut-answer, cuts-fits}
 use Rattle.networks.proofs.Laws.Formed.{Formed, sound-formed}
 use Rattle.networks.proofs.Laws.Judging.{mapping-input, fault-none, pass-verdict, judge-given}
 use Rattle.networks.proofs.Laws.Pieces.{own-boxes-fragment}
-use Rattle.networks.proofs.Laws.Silence.{listed-silent, own-none, eaten-crossed, crossed-eaten, crossed-due, due-crossed}
+use Rattle.networks.proofs.Laws.Silence.{listed-silent, trans-none, own-none, eaten-crossed, crossed-eaten, crossed-due, due-crossed}
 use Rattle.networks.proofs.Passing.{passing}
 
 -- the list that holds no route anywhere
 module _ (𝓐 : Algebra) (choice : Choice 𝓐) (asking : Asking 𝓐) (B : Bounds) (N : NetworkOver 𝓐) (sound : Sound B N) where
-  open Algebra 𝓐 using (Route, Demand, noRoute, same-true)
+  open Algebra 𝓐 using (Route, Demand, noRoute, same-true, same-self)
 
   formed : Formed N
   formed = sound-formed B N sound
@@ -99,6 +103,29 @@ module _ (𝓐 : Algebra) (choice : Choice 𝓐) (asking : Asking 𝓐) (B : Bou
       all-map (ownBoxes N) (λ b e. ap (λ (o : Option Route). 𝓐 .same (Option·getD o noRoute) noRoute) e ∙ 𝓐 .same-self noRoute) (h .0),
     ),
   )
+
+  -- in such a network no route is promised and none has to be held, so that both counts are 0, whatever the list
+  pub quiet-counts : (L : RouteList Route) → Quiet 𝓐 N asking → (census 𝓐 N asking L .promised ≡ 0) × (census 𝓐 N asking L .asked ≡ 0)
+  unfolding census
+  quiet-counts L q = (
+    (count-none (isRoute 𝓐) (promisesIn 𝓐 N)) .1 (all-map (promisesIn 𝓐 N) (λ r e. rw e (ap not (same-self noRoute))) (q .promises)),
+    (count-none (λ (b : Own Route Demand). asking .asksRoute (b .demand)) (ownBoxes N)) .1 (q .demands),
+  )
+
+  -- and where no route is assumed either and none starts, it is such a network
+  pub counts-quiet : (L : RouteList Route) → All (λ (b : Own Route Demand). b .initial ≡ noRoute) (ownBoxes N)
+      → census 𝓐 N asking L .assumed ≡ 0 → census 𝓐 N asking L .promised ≡ 0 → census 𝓐 N asking L .asked ≡ 0 → Quiet 𝓐 N asking
+  unfolding census
+  counts-quiet L starts assumed promised asked = record {
+    starts = starts;
+    eaten = all-map (inputs N) (λ a t. all-of (N .wires) (λ w e. ap (trans 𝓐 N w) (no-route t) ∙ trans-none 𝓐 choice N w))
+        ((count-none (λ (a : Input Route). isRoute 𝓐 (a .assumed)) (inputs N)) .0 assumed);
+    promises = all-map (promisesIn 𝓐 N) (λ r t. no-route t) ((count-none (isRoute 𝓐) (promisesIn 𝓐 N)) .0 promised);
+    demands = (count-none (λ (b : Own Route Demand). asking .asksRoute (b .demand)) (ownBoxes N)) .0 asked;
+  }
+    where
+      no-route : {r : Route} → isRoute 𝓐 r ≡ false → r ≡ noRoute
+      no-route {r} t = same-true r noRoute (not-false (𝓐 .same r noRoute) t)
 
 -- what a pass carried
 module _ (𝓐 : Algebra) (asking : Asking 𝓐) (N : NetworkOver 𝓐) (L : RouteList (𝓐 .Route)) where
@@ -183,6 +210,7 @@ module _ (𝓐 : Algebra) (asking : Asking 𝓐) (N : NetworkOver 𝓐) (S : She
         ∙ sum-numbers (λ (b : Own Route Demand). number S (b .id)) n (filter p (ownBoxes N))
         (all-filter (λ (b : Own Route Demand). number S (b .id) < n) p (ownBoxes N) (all-map (ownBoxes N) (λ b l t. l) low))
 
+    -- and the census of the fragments themselves
     pub census-adds-up : AddsUp (λ (k : ℕ). census 𝓐 (fragment N S k) asking L) n (census 𝓐 N asking L)
     unfolding census
     census-adds-up = record {
@@ -200,3 +228,30 @@ module _ (𝓐 : Algebra) (asking : Asking 𝓐) (N : NetworkOver 𝓐) (S : She
         named : (M : NetworkOver 𝓐) → length (map (λ (b : Own Route Demand). b .id) (filter (overlooked 𝓐 asking L) (ownBoxes M)))
             ≡ length (filter (overlooked 𝓐 asking L) (ownBoxes M))
         named M = length-map (filter (overlooked 𝓐 asking L) (ownBoxes M)) (λ (b : Own Route Demand). b .id)
+
+    -- the same of the fragments that the cutter gives; one that it does not give has no own box
+    module _ (B : Bounds) (sound : Sound B N) (cuts : Cuts 𝓐 N S) where
+      given-part : (count : Census → ℕ) → ((k : ℕ) → ownBoxes (fragment N S k) ≡ [] → count nobody ≡ count (census 𝓐 (fragment N S k) asking L))
+          → (k : ℕ) → count (censusIn 𝓐 N S asking L k) ≡ count (census 𝓐 (fragment N S k) asking L)
+      given-part count empty k = ap in-part (cut-answer 𝓐 N S ((cuts-fits 𝓐 N S B sound) .0 cuts) k) ∙ go (any (numbered N S k) (ownBoxes N)) refl
+        where
+          in-part : Answer (NetworkOver 𝓐) → ℕ
+          in-part a = count (counted (andThen a (λ (F : NetworkOver 𝓐). given (census 𝓐 F asking L))))
+
+          go : (t : Bool) → any (numbered N S k) (ownBoxes N) ≡ t
+              → in-part (firstOf (row 18 (cond t none (some k)) ∷ []) (given (fragment N S k))) ≡ count (census 𝓐 (fragment N S k) asking L)
+          go true q = refl
+          go false q = empty k (own-boxes-fragment N S (only k) ∙ ap (map (promisingOwn N S)) (filter-none (numbered N S k) (ownBoxes N) q))
+
+      pub cut-adds-up : AddsUp (censusIn 𝓐 N S asking L) n (census 𝓐 N asking L)
+      unfolding census
+      cut-adds-up = record {
+        boxes = added (λ c. c .boxes) (λ k e. rw e refl) ∙ census-adds-up .boxes;
+        holding = added (λ c. c .holding) (λ k e. rw e refl) ∙ census-adds-up .holding;
+        asked = added (λ c. c .asked) (λ k e. rw e refl) ∙ census-adds-up .asked;
+        silent = added (λ c. length (c .silent)) (λ k e. rw e refl) ∙ census-adds-up .silent;
+      }
+        where
+          added : (count : Census → ℕ) → ((k : ℕ) → ownBoxes (fragment N S k) ≡ [] → count nobody ≡ count (census 𝓐 (fragment N S k) asking L))
+              → sum (λ (k : ℕ). count (censusIn 𝓐 N S asking L k)) n ≡ sum (λ (k : ℕ). count (census 𝓐 (fragment N S k) asking L)) n
+          added count empty = ap (λ (f : ℕ → ℕ). sum f n) (fun-ext (given-part count empty))

@@ -1,13 +1,14 @@
--- Where no own box holds a route: what reaches a box is what inputs are assumed to hold, behind one wire.
---     bestOf-none, none-bestOf       the best of several is no route exactly where each of them is
---     trans-none                     a wire gives nothing out of nothing
---     crossed, due-none, eaten       no wire gives a route exactly where the inputs' routes are eaten; then no route is due
---     listed-silent                  the list without a route lists none
+-- Where no own box holds a route, what reaches a box is what inputs are assumed to hold, behind one wire.
+--     listed-silent, silent-rises        the list without a route has no route for every own box, and stands by rising id
+--     bestOf-none, none-bestOf           the best of several is no route exactly where each of them is
+--     trans-none                         a wire makes nothing out of no route
+--     eaten-crossed, crossed-eaten       no wire gives a route exactly where the inputs' routes are eaten
+--     crossed-due, due-crossed           then no route is due where none starts, and back
 use mathlib.Core.Path.{_≡_, refl, sym, ap, ap₂, _∙_}
 use mathlib.Core.Bool.{true}
 use mathlib.Core.Option.{Option, none, some, Option·map, Option·getD}
-use mathlib.Core.List.{List, [], _∷_}
-use Prim.Native.Nat.{ℕ}
+use mathlib.Core.List.{List, [], _∷_, map}
+use Prim.Native.Nat.{ℕ, suc}
 use lib.Dec.{eqb}
 use lib.ListN.{getElem?}
 use borrow.Author.Tests.{eqb-true, eq-eqb}
@@ -38,6 +39,14 @@ module _ (𝓐 : Algebra) where
       ∙ ap (Option·map {B = ListEntry Route} (λ (c : Own Route Demand). record { id = c .id; route = noRoute })) e))
       (find-self (λ (b : Own Route Demand). b .id) 0 (ownBoxes N) (own-rise N rise))
 
+  pub silent-rises : (N : NetworkOver 𝓐) → Rises boxId 0 (N .boxes) → Rises (λ (e : ListEntry Route). e .id) 0 (silentList 𝓐 N)
+  silent-rises N rise = go 0 (ownBoxes N) (own-rise N rise)
+    where
+      go : (lo : ℕ) (bs : List (Own Route Demand)) → Rises (λ (b : Own Route Demand). b .id) lo bs
+          → Rises (λ (e : ListEntry Route). e .id) lo (map (λ (b : Own Route Demand). record { id = b .id; route = noRoute }) bs)
+      go lo [] h = tt
+      go lo (b ∷ bs) h = (h .0, go (suc (b .id)) bs (h .1))
+
   module _ (choice : Choice 𝓐) where
     -- no route is at least as good as no route only
     none-best : (r : Route) → AtLeast 𝓐 noRoute r → r ≡ noRoute
@@ -61,59 +70,63 @@ module _ (𝓐 : Algebra) where
         go (some p) = choice .carry-none p
 
     module _ (N : NetworkOver 𝓐) (formed : Formed N) (L : RouteList Route) (none-listed : ListsNone 𝓐 N L) where
-      abbrev ℒ : ℕ → Route
-      ℒ = mapping 𝓐 N L
+      -- what a wire gives
+      abbrev gives : Wire → Route
+      gives w = trans 𝓐 N w (mapping 𝓐 N L (w .from))
 
-      -- what every wire gives is no route
       abbrev pub Crossed : Type 0
-      Crossed = All (λ (w : Wire). trans 𝓐 N w (ℒ (w .from)) ≡ noRoute) (N .wires)
+      Crossed = All (λ (w : Wire). gives w ≡ noRoute) (N .wires)
 
-      pub own-none : All (λ (b : Own Route Demand). ℒ (b .id) ≡ noRoute) (ownBoxes N)
-      own-none = all-map (ownBoxes N) (λ b f. f .0 ∙ ap (λ (o : Option Route). Option·getD o noRoute) (f .1))
-          (all-both _ _ (ownBoxes N) (own-held 𝓐 N L (formed .rise)) none-listed)
+      abbrev NoRoute : Route → Type 0
+      NoRoute r = r ≡ noRoute
+
+      own-held-none : All (λ (b : Own Route Demand). held 𝓐 L (b .id) ≡ noRoute) (ownBoxes N)
+      own-held-none = all-map (ownBoxes N) (λ b e. ap (λ (o : Option Route). Option·getD o noRoute) e) none-listed
+
+      pub own-none : All (λ (b : Own Route Demand). mapping 𝓐 N L (b .id) ≡ noRoute) (ownBoxes N)
+      own-none = all-map (ownBoxes N) (λ b f. f .0 ∙ f .1) (all-both _ _ (ownBoxes N) (own-held 𝓐 N L (formed .rise)) own-held-none)
 
       -- a wire comes from an own box, which holds none, or from an input, whose route is eaten, or from nobody
-      pub eaten-crossed : Eaten 𝓐 N → Crossed
+      from-input : (w : Wire) → ((a : Input Route) → box N (w .from) ≡ some (input a) → trans 𝓐 N w (a .assumed) ≡ noRoute) → gives w ≡ noRoute
       unfolding mapping
-      eaten-crossed eaten = all-map (N .wires) (λ w f. at w (λ a q. f (w .from, a, q) (eq-eqb (w .from) (a .id) (sym (find-key boxId (w .from) (N .boxes) (input a) q)))))
-          (all-each (λ (k : (i : ℕ) × (a : Input Route) × (box N i ≡ some (input a))) (w : Wire). eqb (w .from) (k .1 .id) ≡ true → trans 𝓐 N w (k .1 .assumed) ≡ noRoute)
-          (N .wires) (λ k. input-found N _ (k .0) (k .1) eaten (k .2)))
+      from-input w f = go (box N (w .from)) refl
         where
-          at : (w : Wire) → ((a : Input Route) → box N (w .from) ≡ some (input a) → trans 𝓐 N w (a .assumed) ≡ noRoute) → trans 𝓐 N w (ℒ (w .from)) ≡ noRoute
-          at w f = go (box N (w .from)) refl
-            where
-              go : (o : Option (Box Route Demand)) → box N (w .from) ≡ o → trans 𝓐 N w (ℒ (w .from)) ≡ noRoute
-              go none q = rw q (trans-none N w)
-              go (some (own b)) q = ap (trans 𝓐 N w) (mapping-own 𝓐 N L (w .from) b q
-                  ∙ own-found N (λ (c : Own Route Demand). held 𝓐 L (c .id) ≡ noRoute) (w .from) b
-                  (all-map (ownBoxes N) (λ c e. ap (λ (o : Option Route). Option·getD o noRoute) e) none-listed) q) ∙ trans-none N w
-              go (some (input a)) q = ap (trans 𝓐 N w) (mapping-input 𝓐 N L (w .from) a q) ∙ f a q
+          go : (o : Option (Box Route Demand)) → box N (w .from) ≡ o → gives w ≡ noRoute
+          go none q = rw q (trans-none N w)
+          go (some (own b)) q = ap (trans 𝓐 N w) (mapping-own 𝓐 N L (w .from) b q
+              ∙ own-found N (λ (c : Own Route Demand). held 𝓐 L (c .id) ≡ noRoute) (w .from) b own-held-none q) ∙ trans-none N w
+          go (some (input a)) q = ap (trans 𝓐 N w) (mapping-input 𝓐 N L (w .from) a q) ∙ f a q
+
+      pub eaten-crossed : Eaten 𝓐 N → Crossed
+      eaten-crossed eaten = all-map (N .wires)
+          (λ w f. from-input w (λ a q. f (w .from, a, q) (eq-eqb (w .from) (a .id) (sym (find-key boxId (w .from) (N .boxes) (input a) q)))))
+          (all-each (λ (k : (i : ℕ) × (a : Input Route) × (box N i ≡ some (input a))) (w : Wire).
+          eqb (w .from) (k .1 .id) ≡ true → trans 𝓐 N w (k .1 .assumed) ≡ noRoute)
+          (N .wires) (λ k. input-found N _ (k .0) (k .1) eaten (k .2)))
 
       pub crossed-eaten : Crossed → Eaten 𝓐 N
       crossed-eaten crossed = all-map (inputs N) (λ a q. all-map (N .wires)
-          (λ w c e. sym (ap (trans 𝓐 N w) (ap ℒ (eqb-true (w .from) (a .id) e) ∙ mapping-input 𝓐 N L (a .id) a q)) ∙ c) crossed)
+          (λ w c e. sym (ap (trans 𝓐 N w) (ap (mapping 𝓐 N L) (eqb-true (w .from) (a .id) e) ∙ mapping-input 𝓐 N L (a .id) a q)) ∙ c) crossed)
           (input-there N (formed .rise))
 
-      -- so no route is due
       pub crossed-due : All (λ (b : Own Route Demand). b .initial ≡ noRoute) (ownBoxes N) → Crossed
-          → All (λ (b : Own Route Demand). due 𝓐 N ℒ b ≡ noRoute) (ownBoxes N)
+          → All (λ (b : Own Route Demand). due 𝓐 N (mapping 𝓐 N L) b ≡ noRoute) (ownBoxes N)
       unfolding due
-      crossed-due starts crossed = all-map (ownBoxes N) (λ b e. none-bestOf (b .initial) (offers 𝓐 N ℒ (b .id)) e
-          (all-mapped (λ (s : Route). s ≡ noRoute) (λ (w : Wire). trans 𝓐 N w (ℒ (w .from))) (wiresInto N (b .id))
+      crossed-due starts crossed = all-map (ownBoxes N) (λ b e. none-bestOf (b .initial) (offers 𝓐 N (mapping 𝓐 N L) (b .id)) e
+          (all-mapped NoRoute gives (wiresInto N (b .id))
           (all-filter _ (λ (w : Wire). eqb (w .to) (b .id)) (N .wires) (all-map (N .wires) (λ w c t. c) crossed)))) starts
 
-      -- and back: every wire leads to an own box
-      pub due-crossed : All (λ (b : Own Route Demand). due 𝓐 N ℒ b ≡ noRoute) (ownBoxes N)
+      -- every wire leads to an own box, where nothing is due
+      pub due-crossed : All (λ (b : Own Route Demand). due 𝓐 N (mapping 𝓐 N L) b ≡ noRoute) (ownBoxes N)
           → All (λ (b : Own Route Demand). b .initial ≡ noRoute) (ownBoxes N) × Crossed
       unfolding due
       due-crossed dues = (
-        all-map (ownBoxes N) (λ b e. (bestOf-none (b .initial) (offers 𝓐 N ℒ (b .id)) e) .0) dues,
+        all-map (ownBoxes N) (λ b e. (bestOf-none (b .initial) (offers 𝓐 N (mapping 𝓐 N L) (b .id)) e) .0) dues,
         all-map (N .wires) (λ w f. f .1 (w .to, f .0 .to-own) (eq-eqb (w .to) (w .to) refl)) (all-both _ _ (N .wires) (formed .joined)
-            (all-each (λ (k : (i : ℕ) × (owns N i ≡ true)) (w : Wire). eqb (w .to) (k .0) ≡ true → trans 𝓐 N w (ℒ (w .from)) ≡ noRoute)
+            (all-each (λ (k : (i : ℕ) × (owns N i ≡ true)) (w : Wire). eqb (w .to) (k .0) ≡ true → gives w ≡ noRoute)
             (N .wires) (λ k. own-fact N _ (k .0) into (k .1)))),
       )
         where
-          into : All (λ (b : Own Route Demand). All (λ (w : Wire). eqb (w .to) (b .id) ≡ true → trans 𝓐 N w (ℒ (w .from)) ≡ noRoute) (N .wires)) (ownBoxes N)
-          into = all-map (ownBoxes N) (λ b e. filtered-all (λ (w : Wire). trans 𝓐 N w (ℒ (w .from)) ≡ noRoute) (λ (w : Wire). eqb (w .to) (b .id)) (N .wires)
-              (mapped-all (λ (s : Route). s ≡ noRoute) (λ (w : Wire). trans 𝓐 N w (ℒ (w .from))) (wiresInto N (b .id))
-              ((bestOf-none (b .initial) (offers 𝓐 N ℒ (b .id)) e) .1))) dues
+          into : All (λ (b : Own Route Demand). All (λ (w : Wire). eqb (w .to) (b .id) ≡ true → gives w ≡ noRoute) (N .wires)) (ownBoxes N)
+          into = all-map (ownBoxes N) (λ b e. filtered-all (λ (w : Wire). gives w ≡ noRoute) (λ (w : Wire). eqb (w .to) (b .id)) (N .wires)
+              (mapped-all NoRoute gives (wiresInto N (b .id)) ((bestOf-none (b .initial) (offers 𝓐 N (mapping 𝓐 N L) (b .id)) e) .1))) dues
