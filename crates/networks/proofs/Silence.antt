@@ -1,8 +1,7 @@
 -- What a pass carried. Silence passes exactly where nothing starts, gets in, is promised or is asked for; what is asked for is carried; and
 -- counts of own boxes add up over fragments, since each own box is in one fragment and keeps its id and its demand there.
 --     silence-passes, silent-list-passes, empty-pass     the list that holds no route anywhere
---     quiet-counts, counts-quiet                         what a census says of whether such a list can pass
---     holding-none                                       a census of an empty pass
+--     holding-none, quiet-counts, counts-quiet           what a census says of such a pass
 --     asked-hold, none-silent, asked-holding             demands to hold a route
 --     told-silent, accounted                             demands to hold none, and whose silence is left
 --     silent-part, census-adds-up, cut-adds-up           fragments and whole
@@ -91,7 +90,7 @@ module _ (𝓐 : Algebra) (choice : Choice 𝓐) (asking : Asking 𝓐) (B : Bou
   entered-none none t e = absurd (false≢true t)
   entered-none (some r) t e = ap some (same-true r noRoute e)
 
-  -- so whether there can be an empty pass is the network's matter, and only one list makes it
+  -- so whether there can be an empty pass is the network's matter
   pub empty-pass : (L : RouteList Route) → (Passes 𝓐 N L × Empty 𝓐 N L) ↔ (ListsNone 𝓐 N L × Quiet 𝓐 N asking)
   empty-pass L = (
     λ h.
@@ -100,23 +99,34 @@ module _ (𝓐 : Algebra) (choice : Choice 𝓐) (asking : Asking 𝓐) (B : Bou
         (none-listed, passed-quiet L none-listed (h .0)),
     λ h. (
       quiet-passed L (h .0) (h .1),
-      all-map (ownBoxes N) (λ b e. ap (λ (o : Option Route). 𝓐 .same (Option·getD o noRoute) noRoute) e ∙ 𝓐 .same-self noRoute) (h .0),
+      all-map (ownBoxes N) (λ b e. ap (λ (o : Option Route). 𝓐 .same (Option·getD o noRoute) noRoute) e ∙ same-self noRoute) (h .0),
     ),
   )
 
-  -- in such a network no route is promised and none has to be held, so that both counts are 0, whatever the list
-  pub quiet-counts : (L : RouteList Route) → Quiet 𝓐 N asking → (census 𝓐 N asking L .promised ≡ 0) × (census 𝓐 N asking L .asked ≡ 0)
+-- what a pass carried
+module _ (𝓐 : Algebra) (asking : Asking 𝓐) (N : NetworkOver 𝓐) (L : RouteList (𝓐 .Route)) where
+  open Algebra 𝓐 using (Route, Demand, noRoute, meets, same-true, same-self)
+
+  pub holding-none : (census 𝓐 N asking L .holding ≡ 0) ↔ Empty 𝓐 N L
   unfolding census
-  quiet-counts L q = (
+  holding-none = let c = count-none (λ (b : Own Route Demand). not (silent 𝓐 L b)) (ownBoxes N) in (
+    λ e. all-map (ownBoxes N) (λ b t. not-false (silent 𝓐 L b) t) (c .0 e),
+    λ h. c .1 (all-map (ownBoxes N) (λ b t. ap not t) h),
+  )
+
+  -- where silence passes, no route is promised and none has to be held, so that both counts are 0
+  pub quiet-counts : Quiet 𝓐 N asking → (census 𝓐 N asking L .promised ≡ 0) × (census 𝓐 N asking L .asked ≡ 0)
+  unfolding census
+  quiet-counts q = (
     (count-none (isRoute 𝓐) (promisesIn 𝓐 N)) .1 (all-map (promisesIn 𝓐 N) (λ r e. rw e (ap not (same-self noRoute))) (q .promises)),
     (count-none (λ (b : Own Route Demand). asking .asksRoute (b .demand)) (ownBoxes N)) .1 (q .demands),
   )
 
-  -- and where no route is assumed either and none starts, it is such a network
-  pub counts-quiet : (L : RouteList Route) → All (λ (b : Own Route Demand). b .initial ≡ noRoute) (ownBoxes N)
+  -- and back, where no route is assumed either and none starts
+  pub counts-quiet : Choice 𝓐 → All (λ (b : Own Route Demand). b .initial ≡ noRoute) (ownBoxes N)
       → census 𝓐 N asking L .assumed ≡ 0 → census 𝓐 N asking L .promised ≡ 0 → census 𝓐 N asking L .asked ≡ 0 → Quiet 𝓐 N asking
   unfolding census
-  counts-quiet L starts assumed promised asked = record {
+  counts-quiet choice starts assumed promised asked = record {
     starts = starts;
     eaten = all-map (inputs N) (λ a t. all-of (N .wires) (λ w e. ap (trans 𝓐 N w) (no-route t) ∙ trans-none 𝓐 choice N w))
         ((count-none (λ (a : Input Route). isRoute 𝓐 (a .assumed)) (inputs N)) .0 assumed);
@@ -126,17 +136,6 @@ module _ (𝓐 : Algebra) (choice : Choice 𝓐) (asking : Asking 𝓐) (B : Bou
     where
       no-route : {r : Route} → isRoute 𝓐 r ≡ false → r ≡ noRoute
       no-route {r} t = same-true r noRoute (not-false (𝓐 .same r noRoute) t)
-
--- what a pass carried
-module _ (𝓐 : Algebra) (asking : Asking 𝓐) (N : NetworkOver 𝓐) (L : RouteList (𝓐 .Route)) where
-  open Algebra 𝓐 using (Route, Demand, noRoute, meets, same-true)
-
-  pub holding-none : (census 𝓐 N asking L .holding ≡ 0) ↔ Empty 𝓐 N L
-  unfolding census
-  holding-none = let c = count-none (λ (b : Own Route Demand). not (silent 𝓐 L b)) (ownBoxes N) in (
-    λ e. all-map (ownBoxes N) (λ b t. not-false (silent 𝓐 L b) t) (c .0 e),
-    λ h. c .1 (all-map (ownBoxes N) (λ b t. ap not t) h),
-  )
 
   module _ (passes : Passes 𝓐 N L) where
     met : All (λ (b : Own Route Demand). meets (b .demand) (held 𝓐 L (b .id)) ≡ true) (ownBoxes N)
