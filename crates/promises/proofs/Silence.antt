@@ -4,7 +4,7 @@ use mathlib.Core.Path.{_≡_, refl, sym, ap, _∙_, subst, fun-ext}
 use mathlib.Core.List.{List}
 use mathlib.Core.Logic.{_↔_}
 use mathlib.Core.Option.{some, Option·none-ne-some, Option·some-injective}
-use Prim.Native.Nat.{ℕ, _≤_, _<_}
+use Prim.Native.Nat.{ℕ, _<_}
 use native.Mathlib.Omega.{arith}
 use lib.ListN.{length, length-map}
 use Rattle.lists.specs.All.{All}
@@ -17,7 +17,7 @@ use Rattle.routes.specs.declared.Route.{Route}
 use Rattle.routes.specs.declared.Route.the-variants.{None}
 use Rattle.networks.specs.Judge.{pass, judge, Passes as Passing}
 use Rattle.networks.specs.Network.{Own, Box, own, input, ids, boxId, asOwn, ownBoxes}
-use Rattle.networks.specs.Sheets.{number}
+use Rattle.networks.specs.Sheets.{ListEntry, number}
 use Rattle.networks.specs.Silence.{Census, counted, AddsUp, census, Empty, ListsNone, silentList}
 use Rattle.networks.specs.Silence as networks
 use Rattle.networks.specs.Sound.{Sound}
@@ -38,7 +38,7 @@ use Rattle.routes.specs.Carry.{highest}
 use Rattle.judging.proofs.OnBytes.{judge-said, judged, pass-judged}
 use Rattle.cutting.specs.Cutting.{cutNetwork}
 use Rattle.cutting.proofs.OnBytes.{cut-said, cut-fragment}
-use Rattle.promises.specs.Calls.{house1, Passes, cutInto, Roomy, SheetCuts}
+use Rattle.promises.specs.Calls.{house1, Passes, Roomy, SheetCuts}
 use Rattle.promises.specs.Silence.{censusOf, censusIn, QuietRecord, SilencePasses, EmptyPass, QuietCounts, CountsQuiet}
 use Rattle.promises.specs.Silence.{AskedHold, NoneSilent, Accounted, SilenceWritten, SilentPart, CensusAddsUp}
 use Rattle.promises.proofs.Cuts.{written, into-given, into-fragment, record-said, number-entered, cuts-network, cuts-sheet, cuts-sound, cuts-said}
@@ -115,22 +115,22 @@ module _ (network : List ℕ) (small : Bytes network) (n : SoundRecord network) 
   abbrev quiet : HouseList
   quiet = silentList house1 (networkOf network)
 
-  M : Sound (bounds f) (networkOf network)
-  M = (read-network network small n) .0
+  network-sound : Sound (bounds f) (networkOf network)
+  network-sound = (read-network network small n) .0
 
   list-formed : ListFormed f quiet
   list-formed = record {
     few =
-        let e = length-map (ownBoxes (networkOf network)) (λ (b : Own Route Demand). record { id = b .id; route = None }) in
+        let e = length-map {B = ListEntry Route} (ownBoxes (networkOf network)) (λ (b : Own Route Demand). record { id = b .id; route = None }) in
         let l = length-filterMap asOwn (networkOf network .boxes) in
-        let m = M .boxes-within in
+        let m = network-sound .boxes-within in
         omega arith;
-    rises = silent-rises house1 (networkOf network) (M .boxes-rise);
+    rises = silent-rises house1 (networkOf network) (network-sound .boxes-rise);
   }
 
   fits : All ListEntryFits quiet
   fits = all-mapped ListEntryFits _ (ownBoxes (networkOf network)) (all-filterMap _ asOwn (networkOf network .boxes)
-      (all-map (networkOf network .boxes) (λ v l b e. (id-fits v b e l, tt)) (M .ids-within)))
+      (all-map (networkOf network .boxes) (λ v l b e. (id-fits v b e l, tt)) (network-sound .ids-within)))
     where
       id-fits : (v : Box Route Demand) (b : Own Route Demand) → asOwn v ≡ some b → boxId v < ids → b .id < 65536
       id-fits (own c) b e l = subst (λ (d : Own Route Demand). d .id < 65536) (Option·some-injective _ _ e) l
@@ -150,7 +150,7 @@ module _ (network : List ℕ) (small : Bytes network) (n : SoundRecord network) 
 pub silence-written : (network : List ℕ) → SilenceWritten network
 unfolding W
 silence-written network small n = silence-passes network (W network small n) small n ((record-formed network small n) .0)
-    (subst (ListsNone house1 (networkOf network)) (sym (says network small n)) (listed-silent house1 (networkOf network) (M network small n .boxes-rise)))
+    (subst (ListsNone house1 (networkOf network)) (sym (says network small n)) (listed-silent house1 (networkOf network) (network-sound network small n .boxes-rise)))
 
 pub silent-part : (network sheet list : List ℕ) (k : ℕ) → SilentPart network sheet list k
 silent-part network sheet list k small sheet-small out F e =
