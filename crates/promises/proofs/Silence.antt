@@ -43,6 +43,10 @@ use Rattle.promises.specs.Silence.{censusOf, censusIn, QuietRecord, Sile
 use Rattle.promises.specs.Silence.{AskedHold, NoneSilent, Accounted, SilenceWritten, SilentPart, CensusAddsUp}
 use Rattle.promises.proofs.Cuts.{written, into-given, into-fragment, record-said, number-entered, cuts-network, cuts-sheet, cuts-sound, cuts-said}
 
+-- what a record says that is not refused
+sound : (network : List ℕ) → Bytes network → SoundRecord network → Sound (bounds (formOf network)) (networkOf network)
+sound network small n = (read-network network small n) .0
+
 module _ (network list : List ℕ) (small : Bytes network) where
   abbrev N : HouseNetwork
   N = networkOf network
@@ -59,13 +63,10 @@ module _ (network list : List ℕ) (small : Bytes network) where
   passed : SoundRecord network → WellFormed listLead list → Passing house1 N L → Passes network list
   passed n l h = (length (ownBoxes N), judge-said network list n l ∙ h)
 
-  sound : SoundRecord network → Sound (bounds (formOf network)) N
-  sound n = (read-network network small n) .0
-
 pub silence-passes : (network list : List ℕ) → SilencePasses network list
 silence-passes network list small n l none-listed =
     let theorem = silence.silence-passes house1 (house-choice highest) houseAsking (bounds (formOf network)) (networkOf network)
-    (sound network list small n) (listOf list) none-listed in
+    (sound network small n) (listOf list) none-listed in
     (λ p. theorem .0 ((said network list small p) .2), λ q. passed network list small n l (theorem .1 q))
 
 pub empty-pass : (network list : List ℕ) → EmptyPass network list
@@ -86,7 +87,7 @@ empty-pass network list small = (
     theorem : SoundRecord network → (Passing house1 (networkOf network) (listOf list) × Empty house1 (networkOf network) (listOf list))
         ↔ (ListsNone house1 (networkOf network) (listOf list) × QuietRecord network)
     theorem n = silence.empty-pass house1 (house-choice highest) houseAsking (bounds (formOf network)) (networkOf network)
-        (sound network list small n) (listOf list)
+        (sound network small n) (listOf list)
 
 pub quiet-counts : (network list : List ℕ) → QuietCounts network list
 quiet-counts network list = silence.quiet-counts house1 houseAsking (networkOf network) (listOf list)
@@ -115,42 +116,37 @@ module _ (network : List ℕ) (small : Bytes network) (n : SoundRecord network) 
   abbrev quiet : HouseList
   quiet = silentList house1 (networkOf network)
 
-  network-sound : Sound (bounds f) (networkOf network)
-  network-sound = (read-network network small n) .0
-
   list-formed : ListFormed f quiet
   list-formed = record {
     few =
         let e = length-map {B = ListEntry Route} (ownBoxes (networkOf network)) (λ (b : Own Route Demand). record { id = b .id; route = None }) in
         let l = length-filterMap asOwn (networkOf network .boxes) in
-        let m = network-sound .boxes-within in
+        let m = sound network small n .boxes-within in
         omega arith;
-    rises = silent-rises house1 (networkOf network) (network-sound .boxes-rise);
+    rises = silent-rises house1 (networkOf network) (sound network small n .boxes-rise);
   }
 
   fits : All ListEntryFits quiet
   fits = all-mapped ListEntryFits _ (ownBoxes (networkOf network)) (all-filterMap _ asOwn (networkOf network .boxes)
-      (all-map (networkOf network .boxes) (λ v l b e. (id-fits v b e l, tt)) (network-sound .ids-within)))
+      (all-map (networkOf network .boxes) (λ v l b e. (id-fits v b e l, tt)) (sound network small n .ids-within)))
     where
       id-fits : (v : Box Route Demand) (b : Own Route Demand) → asOwn v ≡ some b → boxId v < ids → b .id < 65536
       id-fits (own c) b e l = subst (λ (d : Own Route Demand). d .id < 65536) (Option·some-injective _ _ e) l
       id-fits (input a) b e l = absurd (Option·none-ne-some _ e)
 
-  W : List ℕ
+  abbrev W : List ℕ
   W = writeList f quiet
 
   record-formed : WellFormed listLead W × (readList f W ≡ quiet)
-  unfolding W
   record-formed = write-list f (form-known network) quiet list-formed fits
 
   says : listOf W ≡ quiet
-  unfolding W
   says = ap (λ (g : Form). readList g W) (list-form f (form-known network) quiet list-formed fits) ∙ record-formed .1
 
 pub silence-written : (network : List ℕ) → SilenceWritten network
-unfolding W
 silence-written network small n = silence-passes network (W network small n) small n ((record-formed network small n) .0)
-    (subst (ListsNone house1 (networkOf network)) (sym (says network small n)) (listed-silent house1 (networkOf network) (network-sound network small n .boxes-rise)))
+    (subst (ListsNone house1 (networkOf network)) (sym (says network small n))
+    (listed-silent house1 (networkOf network) (sound network small n .boxes-rise)))
 
 pub silent-part : (network sheet list : List ℕ) (k : ℕ) → SilentPart network sheet list k
 silent-part network sheet list k small sheet-small out F e =
@@ -161,12 +157,11 @@ silent-part network sheet list k small sheet-small out F e =
 
 module _ (network sheet list : List ℕ) (small : Bytes network) (sheet-small : Bytes sheet) (cuts : SheetCuts network sheet) where
   -- what the cutter gives of what the records say
-  part : ℕ → Census
+  abbrev part : ℕ → Census
   part = networks.censusIn house1 (networkOf network) (sheetOf sheet) houseAsking (listOf list)
 
   -- a fragment's record has the census of the fragment
   part-is : (out : ℕ → List ℕ) → ((k : ℕ) → Roomy (formOf network) (out k)) → (k : ℕ) → censusIn network sheet list out k ≡ part k
-  unfolding part
   part-is out roomy k = ap counted (
       ap (λ (a : Answer (List ℕ)). andThen a (λ (F : List ℕ). given (censusOf F list))) (into-fragment network sheet k (out k) small (roomy k))
       ∙ go (cutNetwork network sheet k) refl
@@ -187,7 +182,6 @@ module _ (network sheet list : List ℕ) (small : Bytes network) (sheet-small : 
       (cuts-said network sheet cuts small sheet-small)) .entered)
 
   parts-add-up : AddsUp part 64 (censusOf network list)
-  unfolding part
   parts-add-up = silence.cut-adds-up house1 houseAsking (networkOf network) (sheetOf sheet) (listOf list) 64 low (bounds (formOf network))
       (cuts-sound network sheet cuts small) (cuts-said network sheet cuts small sheet-small)
 
