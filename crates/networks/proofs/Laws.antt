@@ -1,5 +1,5 @@
 -- Laws about the definitions of specs/, in the order in which they rest on each other.
---     Counts                      numbers added up
+--     Counts                      how many elements meet a test
 --     Boxes, Wires, Entries       boxes by kind and id; the order of wires; what a sheet or a list says of a box
 --     Named, Lowest              the box that an answer names; answers and refusals taken apart
 --     Order                       the order that the laws of choice make
@@ -8,6 +8,7 @@
 --     Uncut, Recut                a network that nothing cuts; one cut upon another
 --     Solutions                   solutions in a network and in its fragments
 --     Judging, Agreeing           the judge's answers; two lists that agree
+--     Silence                     a list that holds no route anywhere
 --     Mapping, Whole              what a list maps a fragment's boxes to; fragments and whole
 --     Points, Together            the paper's definition of a fragment, id by id; the fragments of one cut together
 pub mod Counts
@@ -27,6 +28,7 @@ pub mod Recut
 pub mod Solutions
 pub mod Judging
 pub mod Agreeing
+pub mod Silence
 pub mod Mapping
 pub mod Whole
 pub mod Points

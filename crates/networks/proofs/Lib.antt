@@ -6,6 +6,7 @@
 --     Covering                     the fragments together: they cover the network, and across a cut one promises what the other assumes
 --     FragmentsAndWhole, Recutting     the two halves of demand 3
 --     Counting                     the fragments' judged counts
+--     Silence                      what a pass carried
 --     PaperTheorems                what document 000 proves
 --     Laws                         all else
 pub mod SoundTest
@@ -18,6 +19,7 @@ pub mod FragmentSound
 pub mod OneFragment
 pub mod FragmentsAndWhole
 pub mod Counting
+pub mod Silence
 pub mod Recutting
 pub mod PaperTheorems
 pub mod BestRoute

@@ -1,22 +1,28 @@
 -- What a pass carried: which boxes hold a route, and whose silence somebody asked for. Judging does not look at it.
 --     Asking                     which demands are to hold a route, and which to hold none
 --     silent, overlooked         an own box that holds no route; and one whose silence nobody asked for
---     Census, census             the counts of a network under a list
+--     Census, census, told       the counts of a network under a list; how many own boxes have to hold none
+--     censusIn, AddsUp           the census of a fragment; the fragments' counts and the whole's
 --     Empty                      every own box is silent
---     silentList, Eaten          the list that holds no route anywhere; what becomes of the routes that inputs are assumed to hold
+--     ListsNone, silentList      a list that holds no route anywhere; one that has an entry for every own box and for nobody else
+--     Eaten, Quiet               no assumed route gets over a wire; all that silence passes by
 use mathlib.Core.Path.{_≡_}
-use mathlib.Core.Bool.{Bool, true, not, _&&_}
-use mathlib.Core.List.{List, map, filterMap}
+use mathlib.Core.Bool.{Bool, true, false, not, _&&_}
+use mathlib.Core.List.{List, [], map, filterMap}
+use mathlib.Core.Option.{some}
 use Prim.Native.Nat.{ℕ}
+use lib.Dec.{eqb}
 use lib.ListN.{length}
 use Rattle.lists.specs.All.{All}
+use Rattle.lists.specs.Answer.{Answer, given, refused, andThen}
 use Rattle.lists.specs.Filter.{filter}
 use Rattle.networks.specs.Algebra.{Algebra}
+use Rattle.networks.specs.Counts.{sum}
+use Rattle.networks.specs.Cut.{cut}
 use Rattle.networks.specs.Judge.{held}
 use Rattle.networks.specs.Network.{Own, Input, Wire, NetworkOver, ownBoxes, inputs}
-use Rattle.networks.specs.Sheets.{RouteList}
+use Rattle.networks.specs.Sheets.{Sheet, RouteList, listed}
 use Rattle.networks.specs.Solution.{trans}
-use lib.Dec.{eqb}
 
 -- What a demand asks, as far as silence goes: no route meets every demand but one to hold a route, and it alone meets one to hold none.
 pub record Asking (𝓐 : Algebra) : Type 0 where
@@ -41,9 +47,25 @@ pub record Census : Type 0 where
   -- own boxes that hold none though nobody asked for it
   pub silent : List ℕ
 
+-- a census of nobody, and the census of an answer: what was refused counts nobody
+abbrev pub nobody : Census
+nobody = record { boxes = 0; holding = 0; inputs = 0; assumed = 0; promises = 0; promised = 0; asked = 0; silent = [] }
+
+abbrev pub counted : Answer Census → Census
+counted (given c) = c
+counted (refused number place) = nobody
+
+-- The counts of own boxes in parts 0 to n - 1 come to the whole's. Inputs and promises are left out: a cut makes some of its own.
+pub record AddsUp (part : ℕ → Census) (n : ℕ) (whole : Census) : Type 0 where
+  pub boxes : sum (λ (k : ℕ). part k .boxes) n ≡ whole .boxes
+  pub holding : sum (λ (k : ℕ). part k .holding) n ≡ whole .holding
+  pub asked : sum (λ (k : ℕ). part k .asked) n ≡ whole .asked
+  pub silent : sum (λ (k : ℕ). length (part k .silent)) n ≡ length (whole .silent)
+
 module _ (𝓐 : Algebra) where
   open Algebra 𝓐 using (Route, Demand, noRoute, same)
 
+  -- a route, and not no route
   abbrev pub isRoute : Route → Bool
   isRoute r = not (same r noRoute)
 
@@ -72,14 +94,34 @@ module _ (𝓐 : Algebra) where
       silent = map (λ (b : Own Route Demand). b .id) (filter (overlooked asking L) (ownBoxes N));
     }
 
+  module _ (N : NetworkOver 𝓐) where
+    -- the own boxes that have to hold none, whose silence is asked for
+    abbrev pub told : Asking 𝓐 → ℕ
+    told asking = length (filter (λ (b : Own Route Demand). asking .asksNone (b .demand)) (ownBoxes N))
+
+    -- the census of fragment k as the cutter gives it
+    abbrev pub censusIn : Sheet Route → Asking 𝓐 → RouteList Route → ℕ → Census
+    censusIn S asking L k = counted (andThen (cut 𝓐 N S k) (λ (F : NetworkOver 𝓐). given (census F asking L)))
+
     -- A pass is empty where every own box is silent.
     abbrev pub Empty : RouteList Route → Type 0
     Empty L = All (λ (b : Own Route Demand). silent L b ≡ true) (ownBoxes N)
 
-    -- The list that has no route for every own box.
+    -- Every own box has an entry, and it is no route.
+    abbrev pub ListsNone : RouteList Route → Type 0
+    ListsNone L = All (λ (b : Own Route Demand). listed L (b .id) ≡ some noRoute) (ownBoxes N)
+
+    -- The list that has no route for every own box, and no other entry.
     abbrev pub silentList : RouteList Route
     silentList = map (λ (b : Own Route Demand). record { id = b .id; route = noRoute }) (ownBoxes N)
 
     -- Every assumed route is eaten on every wire out of its input.
     abbrev pub Eaten : Type 0
     Eaten = All (λ (a : Input Route). All (λ (w : Wire). eqb (w .from) (a .id) ≡ true → trans 𝓐 N w (a .assumed) ≡ noRoute) (N .wires)) (inputs N)
+
+    -- What silence passes by: no own box starts with a route, none gets in from an input, no promise is of a route and no demand is for one.
+    pub record Quiet (asking : Asking 𝓐) : Type 0 where
+      pub starts : All (λ (b : Own Route Demand). b .initial ≡ noRoute) (ownBoxes N)
+      pub eaten : Eaten
+      pub promises : All (λ (q : Route). q ≡ noRoute) (promisesIn N)
+      pub demands : All (λ (b : Own Route Demand). asking .asksRoute (b .demand) ≡ false) (ownBoxes N)

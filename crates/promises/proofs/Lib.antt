@@ -4,6 +4,7 @@ pub mod Demand1
 pub mod Demand2
 pub mod Demand3
 pub mod Fragments
+pub mod Silence
 pub mod SameAnswer
 pub mod Determined
 pub mod Programs
