@@ -31,6 +31,7 @@ use Rattle.routes.specs.declared.Demand.the-variants.{Nothing, Hold, HoldNone}
 use Rattle.routes.specs.declared.Fields.{Fields}
 use Rattle.routes.specs.declared.Route.{Route}
 use Rattle.routes.specs.declared.Route.the-variants.{None, Held}
+use Rattle.networks.specs.Judge.{held as Judge·held}
 use Rattle.networks.specs.Silence.{isRoute}
 use Rattle.networks.specs.Solution.{mapping}
 use Rattle.layout.proofs.Places.{node-fields-room}

@@ -29,6 +29,7 @@ use Rattle.reading.specs.Whole.{readNetwork, readList}
 use Rattle.lines.specs.Line.{lineBytes}
 use Rattle.lines.specs.Split.{firstLength, firstRecord, restOf}
 use Rattle.lines.specs.declared.Line.{Line}
+use Rattle.lines.specs.declared.Line.the-variants.{Refused as Line·Refused}
 use Rattle.lines.proofs.Answers.{bound-over, bound-kept}
 use Rattle.lines.proofs.Splits.{rest-lent}
 use Rattle.preparing.specs.Prepared.{prepareRefusal}
