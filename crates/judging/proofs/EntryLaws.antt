@@ -29,7 +29,7 @@ use Rattle.layout.proofs.OneForm.{one-form}
 
 module _ (network list : List ℕ) where
   -- 17, and then the verdict
-  pub lacking-is : (f : Form)
+  lacking-is : (f : Form)
       → judge (house highest) (readNetwork f network) (readList f list) ≡ andThen (lackingRefusal f network list) (λ (g : Form). verdictAt g network list)
   unfolding judge lackingRefusal verdictAt
   lacking-is f = sym (first-then (judgeTable (house highest) (readNetwork f network) (readList f list)) (given f) (λ (g : Form). verdictAt g network list))

@@ -1,8 +1,7 @@
--- The lookup, as the code goes: a part of one record or the other, and an empty one for each refusal.
+-- The lookup, as the code goes: a part of one record or the other, and an empty one where no node has the id.
 --     row-parts     a row's route stands in the network where the count through both records is within it, and else in the list
 --     box-parts     a box's route, by its row
 --     naming        whether a node has the id
---     asking        a refusal, and what no refusal leaves
 use mathlib.Core.Path.{_≡_, refl, _∙_}
 use mathlib.Core.Bool.{Bool, true, false, cond}
 use mathlib.Core.List.{List, []}

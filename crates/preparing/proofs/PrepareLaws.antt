@@ -1,5 +1,5 @@
 -- The refusals before the search, and the tables that each way through them leaves.
---     lacking                17: the first own box without an entry, by the rows
+--     lacking, no-bare       17: the first own box without an entry, by the rows
 --     entering               the entries are placed, and the table is filled from them
 --     preparing              the network's refusals, the list's, and then 17
 use mathlib.Core.Path.{_≡_, refl, sym, ap, _∙_}
