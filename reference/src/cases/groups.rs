@@ -30,7 +30,7 @@ pub const ALL: [Group; 13] = [
     (VERSION_1, 1, largest),
     (VERSION_1, 1, |s, f, r| over_size(s, &[JUDGE, CUT], f, r)),
     (VERSION_1, 300, lent),
-    (VERSION_1, 1, example_plans),
+    (VERSION_1, 1, |s, _, _| example_plans(s, false)),
 ];
 
 /// The judge's input or the cutter's.
@@ -186,9 +186,10 @@ fn lent(stream: &mut Stream, form: Form, random: &mut Random) {
     });
 }
 
-/// The example plans next to this package, by name.
-fn example_plans(stream: &mut Stream, _: Form, _: &mut Random) {
+/// The example plans next to this package, by name: those that are about the census, or all others.
+fn example_plans(stream: &mut Stream, census: bool) {
     let mut plans: Vec<_> = examples::plans().collect();
+    plans.retain(|(path, call, _)| examples::about_census(path, call) == census);
     plans.sort_unstable_by(|one, other| one.0.cmp(&other.0));
     for (_, call, input) in plans {
         stream.add(call, &input);
