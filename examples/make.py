@@ -7,7 +7,8 @@
 A plan NAME is NAME.network, NAME.list and NAME.sheet, put together as NAME.judge (what the judge
 reads) and NAME.cutK (what the cutter reads to cut out fragment K). Each input's answer stands in
 the file of the same name with .out behind it. NAME.partK.judge is fragment K, as it was cut out,
-with the list of the whole.
+with the list of the whole. Of some plans NAME.census and NAME.partK.census are the same inputs, for
+the census.
 """
 
 import pathlib
@@ -153,6 +154,23 @@ def fat_tree_drop():
     return fat_tree_plan(wires, [policy(), policy(need=0xFFFF)])
 
 
+def silent_feed():
+    """A studio 1, a desk 2, a guest's line 3, and an archive: its feed 4, a recorder 5 and a store 6.
+    Policy 1 lets nothing through. It closes the guest's line, which has to hold none, and stands on
+    the feed's wire by mistake, so that the archive holds nothing; only the desk has to hold a route.
+    The notes are what the boxes hold. Cut 1, 2, 3, 4 | 5, 6."""
+    nodes = {id: node(id) for id in (4, 5, 6)}
+    nodes[1] = node(1, route(100, 0, 1))
+    nodes[2] = node(2, demand=(1, 1, 0))
+    nodes[3] = node(3, demand=(2, 0, 0))
+    closed = [(2, 3), (2, 4)]
+    wires = both_ways([(1, 2), (2, 3), (2, 4), (4, 5), (5, 6)])
+    wires = [(a, b, 1 if (a, b) in closed else 0) for a, b, _ in wires]
+    plan = network([policy(), policy(need=0xFFFF)], nodes, wires)
+    held = {1: route(100, 0, 1), 2: route(100, 1, 1), 3: NONE, 4: NONE, 5: NONE, 6: NONE}
+    return plan, held, {1: 0, 2: 0, 3: 0, 4: 0, 5: 1, 6: 1}, held
+
+
 PLANS = {
     "chain": chain,
     "two-answers": two_answers,
@@ -161,7 +179,11 @@ PLANS = {
     "bad-gadget": bad_gadget,
     "fat-tree": fat_tree,
     "fat-tree-drop": fat_tree_drop,
+    "silent-feed": silent_feed,
 }
+
+# The plans that are counted, too.
+COUNTED = {"chain", "fat-tree", "silent-feed"}
 
 
 def reference(command, data):
@@ -175,14 +197,16 @@ def files_of(name):
     """All files of a plan, by name."""
     plan, held, numbers, notes = PLANS[name]()
     listed, cut_by = route_list(held), sheet(numbers, notes)
-    files = {"network": plan, "list": listed, "sheet": cut_by, "judge": plan + listed}
-    files["judge.out"] = reference("judge", plan + listed)
+    files = {"network": plan, "list": listed, "sheet": cut_by}
+    judged = {"": plan + listed}
     for k in sorted(set(numbers.values())):
         asked = plan + bytes([k]) + cut_by
         fragment = reference("cut", asked)
         files[f"cut{k}"], files[f"cut{k}.out"] = asked, fragment
-        files[f"part{k}.judge"] = fragment + listed
-        files[f"part{k}.judge.out"] = reference("judge", fragment + listed)
+        judged[f"part{k}."] = fragment + listed
+    for part, data in judged.items():
+        for call in ["judge", "census"] if name in COUNTED else ["judge"]:
+            files[part + call], files[f"{part}{call}.out"] = data, reference(call, data)
     return {f"{name}.{ending}": data for ending, data in files.items()}
 
 

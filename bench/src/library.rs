@@ -3,6 +3,7 @@
 extern "C" {
     fn lnianotka_check(network: *const u8, length: usize, place: *mut usize) -> u8;
     fn lnianotka_judge(input: *const u8, length: usize, out: *mut u8, room: usize) -> usize;
+    fn lnianotka_census(input: *const u8, length: usize, out: *mut u8, room: usize) -> usize;
     fn lnianotka_cut(input: *const u8, length: usize, out: *mut u8, room: usize) -> usize;
 }
 
@@ -18,6 +19,12 @@ pub fn check(network: &[u8]) -> (u8, usize) {
 pub fn judge(input: &[u8], out: &mut [u8]) -> usize {
     // SAFETY: the function reads the bytes of the one slice and writes within the other.
     unsafe { lnianotka_judge(input.as_ptr(), input.len(), out.as_mut_ptr(), out.len()) }
+}
+
+/// The census's answer, laid at the start of `out` where it fits; gives its length.
+pub fn census(input: &[u8], out: &mut [u8]) -> usize {
+    // SAFETY: as above.
+    unsafe { lnianotka_census(input.as_ptr(), input.len(), out.as_mut_ptr(), out.len()) }
 }
 
 /// The cutter's answer, laid at the start of `out` where it fits; gives its length.

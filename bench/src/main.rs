@@ -1,10 +1,10 @@
-//! Times check, judge and cut of the proved library against the reference: the same bytes, one
-//! process, the two by turns, so that what else the machine does falls on both.
+//! Times check, judge, census and cut of the proved library against the reference: the same bytes,
+//! one process, the two by turns, so that what else the machine does falls on both.
 
 mod library;
 
 use reference::bench::{self, Load};
-use reference::call::{CUT, JUDGE};
+use reference::call::{CENSUS, CUT, JUDGE};
 use reference::form::VERSION_1;
 use reference::record;
 use std::hint::black_box;
@@ -50,6 +50,7 @@ fn main() {
         );
         for (name, input, proved, call) in [
             ("judge", &judge, library::judge as Proved, JUDGE),
+            ("census", &judge, library::census, CENSUS),
             ("cut", &cut, library::cut, CUT),
             ("whole", &whole, library::cut, CUT),
         ] {

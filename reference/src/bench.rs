@@ -1,6 +1,7 @@
 //! Timing the calls on the largest records, and writing those records down for others to time.
 
-use crate::call::{CUT, JUDGE};
+use crate::call::{CENSUS, CUT, JUDGE};
+use crate::census;
 use crate::cut;
 use crate::form::{Form, ENTRIES_HEAD, MOST_EDGES, MOST_POLICIES, SHEET_LEAD, VERSION_1};
 use crate::judge;
@@ -113,9 +114,9 @@ impl Load {
 }
 
 /// Prints nanoseconds a call: the median and the lowest. `cut` cuts out fragment 0, `whole` has
-/// all boxes in it; the two programs are timed over bytes, from input to output.
+/// all boxes in it; the programs are timed over bytes, from input to output.
 pub fn run() {
-    println!("load       boxes  wires  call         median   lowest");
+    println!("load       boxes  wires  call          median   lowest");
     for load in loads(VERSION_1) {
         let (network, list, sheet) = (&load.network[..], &load.list[..], &load.sheet[..]);
         let whole = load.whole_sheet();
@@ -123,12 +124,16 @@ pub fn run() {
         let out = &mut vec![0; load.form.largest_network()];
         let show = |call: &str, (median, lowest): (u128, u128)| {
             let (name, boxes, wires) = (&load.name, load.boxes, load.wires);
-            println!("{name:<10} {boxes:>5} {wires:>6}  {call:<11} {median:>7} {lowest:>8}");
+            println!("{name:<10} {boxes:>5} {wires:>6}  {call:<12} {median:>7} {lowest:>8}");
         };
         show("check", time(|| record::check_network(black_box(network))));
         show(
             "judge",
             time(|| judge::judge(black_box(network), list, TOP)),
+        );
+        show(
+            "census",
+            time(|| census::census(black_box(network), list, TOP)),
         );
         show("cut", time(|| cut::cut(black_box(network), sheet, 0, out)));
         show(
@@ -138,6 +143,10 @@ pub fn run() {
         show(
             "judge_bytes",
             time(|| JUDGE.answer(black_box(&judge_input))),
+        );
+        show(
+            "census_bytes",
+            time(|| CENSUS.answer(black_box(&judge_input))),
         );
         show("cut_bytes", time(|| CUT.answer(black_box(&cut_input))));
     }

@@ -37,8 +37,16 @@ pub const LENT: &Call = &Call {
     run: program::lent_bytes,
 };
 
+/// It reads what the judge reads.
+pub const CENSUS: &Call = &Call {
+    number: 3,
+    name: "census",
+    bound: JUDGE.bound,
+    run: program::census_bytes,
+};
+
 /// All calls by rising number.
-pub const CALLS: [&Call; 3] = [JUDGE, CUT, LENT];
+pub const CALLS: [&Call; 4] = [JUDGE, CUT, LENT, CENSUS];
 
 impl Call {
     pub fn numbered(number: u8) -> Option<&'static Call> {

@@ -10,6 +10,7 @@ use std::collections::BTreeSet;
 use std::fmt;
 use std::io;
 
+pub mod counted;
 pub mod examples;
 mod groups;
 pub mod inputs;

@@ -1,6 +1,6 @@
 //! Inputs by their parts.
 
-use crate::call::{Call, CUT, JUDGE};
+use crate::call::{Call, CENSUS, CUT, JUDGE};
 use crate::form::{Form, LIST_LEAD, SHEET_LEAD};
 use crate::plan::{list_record, sheet_record, Listed, Noted, Plan};
 
@@ -27,6 +27,14 @@ impl Input {
             between: vec![],
             second: list_record(plan.form, list),
             lead: LIST_LEAD,
+        }
+    }
+
+    /// The census reads what the judge reads.
+    pub fn census(plan: &Plan, list: &[Listed]) -> Input {
+        Input {
+            call: CENSUS,
+            ..Input::judge(plan, list)
         }
     }
 

@@ -98,7 +98,7 @@ fn policies(network: &Network) -> [Policy; MOST_POLICIES] {
 
 /// Takes the own nodes by rising id and stops at the first fault. Edges rise by their to end,
 /// which is an own node, so each node's incoming edges are the next ones.
-fn search(proposal: &Proposal, table: &Table, top: u16) -> Verdict {
+pub(crate) fn search(proposal: &Proposal, table: &Table, top: u16) -> Verdict {
     let network = &proposal.network;
     let held = held_routes(proposal);
     let policies = policies(network);

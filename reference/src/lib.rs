@@ -1,9 +1,10 @@
-//! An independent reading of the rules for route plans: check a record, judge a list, cut out a
-//! fragment, and the calls over bytes. The rest makes inputs: for tests, for stored cases and for
-//! timing.
+//! An independent reading of the rules for route plans: check a record, judge a list, count what a
+//! pass carried, cut out a fragment, and the calls over bytes. The rest makes inputs: for tests,
+//! for stored cases and for timing.
 #![forbid(unsafe_code)]
 
 pub mod call;
+pub mod census;
 pub mod cut;
 pub mod form;
 pub mod judge;

@@ -1,5 +1,6 @@
 //! What the calls read and write, from bytes to bytes.
 
+use crate::census::{self, Census};
 use crate::cut;
 use crate::judge::{self, Verdict};
 use crate::refusal::Refusal;
@@ -8,19 +9,18 @@ use crate::route::{Route, TOP};
 /// The judge: a network and then a list; one line back.
 pub fn judge_bytes(input: &[u8]) -> Vec<u8> {
     let (network, list) = split(input);
-    match judge::judge(network, list, TOP) {
-        Verdict::Pass { judged } => format!("pass {judged}\n").into_bytes(),
-        Verdict::Refused(refusal) => refused_line(refusal),
-        Verdict::Found {
-            node,
-            judged,
-            fault,
-        } => {
-            let number = fault.number();
-            let route = route_words(fault.route());
-            format!("found {number} {node} {judged} {route}\n").into_bytes()
-        }
+    verdict_line(judge::judge(network, list, TOP))
+}
+
+/// The census: what the judge reads; the judge's line back, and behind a pass what it carried.
+pub fn census_bytes(input: &[u8]) -> Vec<u8> {
+    let (network, list) = split(input);
+    let (verdict, census) = census::census(network, list, TOP);
+    let mut text = verdict_line(verdict);
+    if let Some(census) = census {
+        text.extend(census_lines(&census).into_bytes());
     }
+    text
 }
 
 /// The cutter: a network, the fragment asked, and then a sheet; the fragment back, or a line.
@@ -70,6 +70,43 @@ pub fn split(input: &[u8]) -> (&[u8], &[u8]) {
         Ok(total) if total <= input.len() => input.split_at(total),
         _ => (input, &[]),
     }
+}
+
+fn verdict_line(verdict: Verdict) -> Vec<u8> {
+    match verdict {
+        Verdict::Pass { judged } => format!("pass {judged}\n").into_bytes(),
+        Verdict::Refused(refusal) => refused_line(refusal),
+        Verdict::Found {
+            node,
+            judged,
+            fault,
+        } => {
+            let number = fault.number();
+            let route = route_words(fault.route());
+            format!("found {number} {node} {judged} {route}\n").into_bytes()
+        }
+    }
+}
+
+fn census_lines(census: &Census) -> String {
+    let Census {
+        boxes,
+        holding,
+        inputs,
+        assumed,
+        promises,
+        promised,
+        asked,
+        silent,
+    } = census;
+    let mut lines = format!("holding {holding} of {boxes}\n");
+    lines += &format!("assumed {assumed} of {inputs}\n");
+    lines += &format!("promised {promised} of {promises}\n");
+    lines += &format!("asked {asked}\n");
+    for id in silent {
+        lines += &format!("silent {id}\n");
+    }
+    lines
 }
 
 pub fn refused_line(refusal: Refusal) -> Vec<u8> {

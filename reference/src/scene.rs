@@ -4,7 +4,7 @@
 use crate::form::Form;
 use crate::plan::{Listed, Node, Noted, Plan};
 use crate::random::Random;
-use crate::route::{Promise, Route};
+use crate::route::{Demand, Promise, Route};
 use crate::settle;
 use crate::shapes::Shape;
 use std::collections::BTreeSet;
@@ -109,6 +109,19 @@ impl Scene {
             .filter(|&row| self.plan.nodes[row].own)
             .collect();
         *random.pick(&own)
+    }
+
+    /// Takes about one in `rate` of the routes away that boxes start with or are assumed to hold,
+    /// and settles anew. What was promised and asked goes too, since it need not fit any more.
+    pub fn hush(&mut self, rate: usize, top: u16, random: &mut Random) {
+        for node in &mut self.plan.nodes {
+            if random.one_in(rate) {
+                node.route = None;
+            }
+            node.promise = Promise::Nothing;
+            node.demand = Demand::Nothing;
+        }
+        (self.held, self.settled) = settle::settle(&self.plan, top, ROUNDS);
     }
 
     /// Gives about one own node in `rate` a promise, and as many a demand, that it meets.

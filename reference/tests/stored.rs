@@ -1,6 +1,6 @@
 //! The stored cases: enough of each kind, not too many bytes, and always the same.
 
-use reference::call::{Call, CALLS, CUT, JUDGE, LENT};
+use reference::call::{Call, CALLS, CENSUS, CUT, JUDGE, LENT};
 use reference::cases;
 use reference::damage::ALL;
 use reference::form::{Form, FORMS};
@@ -15,7 +15,7 @@ use std::path::Path;
 fn enough_of_each_kind() {
     let stream = cases::make();
     assert!(stream.cases.len() >= 4_000);
-    assert!(stream.inputs().len() + stream.answers().len() < 4_000_000);
+    assert!(stream.inputs().len() + stream.answers().len() < 4_500_000);
     let given = |kind: &str, call: &Call| stream.given(kind, call);
     for kind in ["pass", "found 31", "found 32", "found 33"] {
         assert!(given(kind, JUDGE) >= 200, "{kind}");
@@ -34,6 +34,32 @@ fn enough_of_each_kind() {
             "{kind} {judge} {cut}"
         );
     }
+}
+
+#[test]
+fn enough_of_each_kind_for_the_census() {
+    let stream = cases::make();
+    let given = |kind: &str| stream.given(kind, CENSUS);
+    assert!(given("pass") >= 400);
+    for kind in ["found 31", "found 32", "found 33"] {
+        assert!(given(kind) >= 10, "{kind}");
+    }
+    for number in 1..=17 {
+        let kind = format!("refused {number:>2}");
+        let least = if number == 5 { 2 } else { 5 };
+        assert!(given(&kind) >= least, "{kind}");
+    }
+    let counted = stream
+        .cases
+        .iter()
+        .filter(|case| case.call.name == CENSUS.name);
+    let texts = counted.map(|case| String::from_utf8_lossy(&case.answer));
+    let passes: Vec<_> = texts.filter(|text| text.starts_with("pass")).collect();
+    let with = |words: &str| passes.iter().filter(|text| text.contains(words)).count();
+    let silent = with("\nsilent ");
+    assert!(silent >= 200 && passes.len() - silent >= 200, "{silent}");
+    assert!(with("\nholding 0 ") >= 100 && with("\nassumed 0 of 1\n") >= 50);
+    assert!(with("\npromised 0 of 1\n") >= 50 && with("\nasked 0\n") >= 100);
 }
 
 #[test]

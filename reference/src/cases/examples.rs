@@ -1,6 +1,6 @@
 //! The example plans next to this package, as a person hands them to the programs.
 
-use crate::call::Call;
+use crate::call::{Call, CENSUS};
 use std::fs;
 use std::path::{Path, PathBuf};
 
@@ -16,4 +16,10 @@ pub fn plans() -> impl Iterator<Item = (PathBuf, &'static Call, Vec<u8>)> {
         let input = fs::read(&path).expect("an input");
         Some((path, call, input))
     })
+}
+
+/// The inputs of the census, and all those of the plan that shows what it is for.
+pub fn about_census(path: &Path, call: &Call) -> bool {
+    let name = path.file_name().and_then(|name| name.to_str());
+    call.number == CENSUS.number || name.is_some_and(|name| name.starts_with("silent-feed."))
 }

@@ -1,13 +1,14 @@
 //! The groups of stored cases.
 
-use super::{examples, inputs, Stream};
-use crate::call::{Call, CUT, JUDGE, LENT};
+use super::{counted, examples, inputs, Stream};
+use crate::call::{Call, CENSUS, CUT, JUDGE, LENT};
 use crate::damage;
 use crate::form::{Form, VERSION_1};
 use crate::input::Input;
 use crate::known;
 use crate::plan::{list_record, sheet_record};
 use crate::random::Random;
+use crate::route::{Demand, Promise};
 use crate::scene::Scene;
 
 /// The form of a group's records, how often cases are added, and what adds them.
@@ -17,12 +18,14 @@ type Group = (Form, usize, fn(&mut Stream, Form, &mut Random));
 type Maker = fn(Scene, &mut Random) -> Input;
 
 /// A group's place says what it draws its numbers from, so a new one comes last.
-pub const ALL: [Group; 13] = [
+pub const ALL: [Group; 23] = [
     (VERSION_1, 1, known_plans),
     (VERSION_1, 1, |s, f, r| odd_frames(s, &[JUDGE, CUT], f, r)),
     (VERSION_1, 1_000, |s, f, r| small(s, inputs::judge, f, r)),
     (VERSION_1, 800, |s, f, r| small(s, inputs::cut, f, r)),
-    (VERSION_1, 200, fragment_judged),
+    (VERSION_1, 200, |s, f, r| {
+        part(s, JUDGE, inputs::small, f, r)
+    }),
     (VERSION_1, 2_000, |s, f, r| damaged(s, either, f, r)),
     (VERSION_1, 300, |s, f, r| damaged_twice(s, either, f, r)),
     (VERSION_1, 900, |s, f, r| disturbed(s, either, f, r)),
@@ -30,7 +33,21 @@ pub const ALL: [Group; 13] = [
     (VERSION_1, 1, largest),
     (VERSION_1, 1, |s, f, r| over_size(s, &[JUDGE, CUT], f, r)),
     (VERSION_1, 300, lent),
-    (VERSION_1, 1, example_plans),
+    (VERSION_1, 1, |s, _, _| example_plans(s, false)),
+    (VERSION_1, 1, |s, f, _| known_counted(s, f)),
+    (VERSION_1, 1, |s, f, r| odd_frames(s, &[CENSUS], f, r)),
+    (VERSION_1, 400, |s, f, r| small(s, counted::census, f, r)),
+    (VERSION_1, 120, |s, f, r| {
+        part(s, CENSUS, counted::hushed, f, r)
+    }),
+    (VERSION_1, 300, |s, f, r| damaged(s, counted::census, f, r)),
+    (VERSION_1, 100, |s, f, r| {
+        disturbed(s, counted::census, f, r)
+    }),
+    (VERSION_1, 20, |s, f, r| middling(s, counted::census, f, r)),
+    (VERSION_1, 1, largest_counted),
+    (VERSION_1, 1, |s, f, r| over_size(s, &[CENSUS], f, r)),
+    (VERSION_1, 1, |s, _, _| example_plans(s, true)),
 ];
 
 /// The judge's input or the cutter's.
@@ -58,6 +75,32 @@ fn known_plans(stream: &mut Stream, form: Form, _: &mut Random) {
         for choice in 0..1 << others {
             let held: Vec<_> = (0..others).map(|bit| routes[choice >> bit & 1]).collect();
             stream.add_parts(&Input::judge(&plan, &known::around_list(&held)));
+        }
+    }
+}
+
+/// The chain and one without its start, with its list and with no route anywhere; of box 2 nothing
+/// is promised or asked, or a route, or none.
+fn known_counted(stream: &mut Stream, form: Form) {
+    let list = known::chain_list();
+    let nothing: Vec<_> = list.iter().map(|(id, _)| (*id, None)).collect();
+    let held = list[1].1;
+    let (ceiling, tags) = (1, 0);
+    for start in [Some(known::START), None] {
+        for promise in [Promise::Nothing, Promise::Holds(held), Promise::Holds(None)] {
+            for demand in [
+                Demand::Nothing,
+                Demand::Route { ceiling, tags },
+                Demand::NoRoute,
+            ] {
+                let mut plan = known::chain().of(form);
+                plan.nodes[0].route = start;
+                plan.nodes[1].promise = promise;
+                plan.nodes[1].demand = demand;
+                plan.nodes[2].demand = Demand::Nothing;
+                stream.add_parts(&Input::census(&plan, &list));
+                stream.add_parts(&Input::census(&plan, &nothing));
+            }
         }
     }
 }
@@ -101,12 +144,22 @@ fn middling(stream: &mut Stream, make: Maker, form: Form, random: &mut Random) {
     stream.add_parts(&make(scene, random));
 }
 
-/// A fragment, judged with the list of the whole.
-fn fragment_judged(stream: &mut Stream, form: Form, random: &mut Random) {
-    let scene = inputs::small(form, random);
+/// A fragment, judged or counted with the list of the whole.
+fn part(
+    stream: &mut Stream,
+    call: &'static Call,
+    scene: fn(Form, &mut Random) -> Scene,
+    form: Form,
+    random: &mut Random,
+) {
+    let scene = scene(form, random);
     let whole = inputs::judge(scene.clone(), random);
     let network = inputs::cut(scene, random).answer();
-    stream.add_parts(&Input { network, ..whole });
+    stream.add_parts(&Input {
+        call,
+        network,
+        ..whole
+    });
 }
 
 /// All damages in turn.
@@ -151,6 +204,12 @@ fn largest(stream: &mut Stream, form: Form, random: &mut Random) {
     }
 }
 
+fn largest_counted(stream: &mut Stream, form: Form, random: &mut Random) {
+    for input in counted::largest(form, random) {
+        stream.add_parts(&input);
+    }
+}
+
 /// Inputs of exactly the most bytes, and of one more: a list that passes, and zeros.
 fn over_size(stream: &mut Stream, calls: &[&'static Call], form: Form, random: &mut Random) {
     let full = inputs::largest_judge(form, random);
@@ -186,9 +245,10 @@ fn lent(stream: &mut Stream, form: Form, random: &mut Random) {
     });
 }
 
-/// The example plans next to this package, by name.
-fn example_plans(stream: &mut Stream, _: Form, _: &mut Random) {
+/// The example plans next to this package, by name: those that are about the census, or all others.
+fn example_plans(stream: &mut Stream, census: bool) {
     let mut plans: Vec<_> = examples::plans().collect();
+    plans.retain(|(path, call, _)| examples::about_census(path, call) == census);
     plans.sort_unstable_by(|one, other| one.0.cmp(&other.0));
     for (_, call, input) in plans {
         stream.add(call, &input);

@@ -199,7 +199,13 @@ fn add_listed_strangers(scene: &Scene, list: &mut Vec<Listed>, random: &mut Rand
 }
 
 /// A scene of the most boxes, wires and policies.
-fn largest_scene(form: Form, shape: &Shape, ids: Ids, inputs: usize, random: &mut Random) -> Scene {
+pub(super) fn largest_scene(
+    form: Form,
+    shape: &Shape,
+    ids: Ids,
+    inputs: usize,
+    random: &mut Random,
+) -> Scene {
     let dress = Dress {
         form,
         top: TOP,
@@ -216,7 +222,7 @@ fn largest_scene(form: Form, shape: &Shape, ids: Ids, inputs: usize, random: &mu
 }
 
 /// A fat-tree of 16 pods with all wires, and boxes without any to make the most.
-fn padded_fat_tree(form: Form) -> Shape {
+pub(super) fn padded_fat_tree(form: Form) -> Shape {
     Shape {
         boxes: form.most,
         ..shapes::fat_tree(16)
@@ -242,7 +248,7 @@ fn largest_scenes(form: Form, random: &mut Random) -> Vec<Scene> {
 }
 
 /// The largest list: one entry for each own node, and strangers up to the most.
-fn full_list(scene: &Scene, random: &mut Random) -> Vec<Listed> {
+pub(super) fn full_list(scene: &Scene, random: &mut Random) -> Vec<Listed> {
     let mut list = scene.list();
     while list.len() < scene.plan.form.most {
         add_listed_strangers(scene, &mut list, random);

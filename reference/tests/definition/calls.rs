@@ -1,4 +1,4 @@
-//! Judging and cutting.
+//! Judging, counting and cutting.
 
 use super::forms::{both, word, Refused, Rows};
 use std::cmp::Reverse;
@@ -75,6 +75,37 @@ pub fn judge(network: &[u8], list: &[u8]) -> Result<String, Refused> {
         }
     }
     Ok(format!("pass {}\n", own.count()))
+}
+
+/// The judge's line, and where it is a pass, what the boxes hold and what is asked of them.
+pub fn census(network: &[u8], list: &[u8]) -> Result<String, Refused> {
+    let line = judge(network, list)?;
+    if !line.starts_with("pass") {
+        return Ok(line);
+    }
+    let (rows, list) = both(network, list, 2)?;
+    let form = rows.form;
+    let (own, inputs): (Vec<&[u8]>, Vec<&[u8]>) = rows.nodes.iter().partition(|n| n[2] == 0);
+    let count = |nodes: &[&[u8]], which: &dyn Fn(&[u8]) -> bool| {
+        let counted = nodes.iter().filter(|node| which(node));
+        counted.count()
+    };
+    let holds = |node: &[u8]| fields(&list[&word(node, 0)][2..]).is_some();
+    let assumed = count(&inputs, &|node| fields(form.initial(node)).is_some());
+    let promises = count(&own, &|node| form.flag(node) == 1);
+    let promised = count(&own, &|node| {
+        form.flag(node) == 1 && fields(form.promised(node)).is_some()
+    });
+    let asked = count(&own, &|node| form.asks(node)[0] == 1);
+    let silent = own.iter().filter(|n| !holds(n) && form.asks(n)[0] != 2);
+    let lines = [
+        format!("holding {} of {}\n", count(&own, &holds), own.len()),
+        format!("assumed {assumed} of {}\n", inputs.len()),
+        format!("promised {promised} of {promises}\n"),
+        format!("asked {asked}\n"),
+    ];
+    let silent = silent.map(|node| format!("silent {}\n", word(node, 0)));
+    Ok(line + &lines.concat() + &silent.collect::<String>())
 }
 
 /// A network, the sheet's entries and the fragment asked.

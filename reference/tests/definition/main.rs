@@ -5,6 +5,7 @@ mod calls;
 mod forms;
 
 use forms::{long, word, Refused, FORMS};
+use reference::call::{CENSUS, JUDGE};
 use reference::cases::{self, Case};
 
 fn answer(case: &Case) -> Vec<u8> {
@@ -13,6 +14,7 @@ fn answer(case: &Case) -> Vec<u8> {
         "judge" => program(input, 2, 0, judge),
         "cut" => program(input, 3, 1, cut),
         "lent" => lent(input),
+        "census" => program(input, 2, 0, census),
         other => panic!("{other} is not defined here"),
     })
 }
@@ -41,6 +43,10 @@ fn judge(network: &[u8], list: &[u8]) -> Answer {
     calls::judge(network, list).map(String::into_bytes)
 }
 
+fn census(network: &[u8], list: &[u8]) -> Answer {
+    calls::census(network, list).map(String::into_bytes)
+}
+
 /// What follows the network is the fragment asked, and then the sheet.
 fn cut(network: &[u8], rest: &[u8]) -> Answer {
     let (asked, sheet) = (*rest.first().unwrap_or(&0), rest.get(1..).unwrap_or(&[]));
@@ -65,5 +71,16 @@ fn line(answer: Answer) -> Vec<u8> {
 fn stored_answers_are_those_of_the_definition() {
     for (number, case) in cases::make().cases.iter().enumerate() {
         assert!(answer(case) == case.answer, "case {number}");
+    }
+}
+
+/// The census reads what the judge reads, so the judge's cases are counted too.
+#[test]
+fn cases_of_the_judge_counted() {
+    for (number, case) in cases::make().cases.iter().enumerate() {
+        if case.call.name == JUDGE.name {
+            let counted = line(program(&case.input, 2, 0, census));
+            assert!(counted == CENSUS.answer(&case.input), "case {number}");
+        }
     }
 }

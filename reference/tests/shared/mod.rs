@@ -50,12 +50,23 @@ pub fn cut_records(network: &[u8], asked: u8, sheet: &[u8]) -> Vec<u8> {
     cut_bytes(&[network, &[asked], sheet].concat())
 }
 
+/// The lines of the census for a plan and a list.
+pub fn census(plan: &Plan, list: &[Listed]) -> Vec<String> {
+    lines(&Input::census(plan, list).answer())
+}
+
 /// A line is ASCII and ends in its only line feed.
 pub fn line(output: &[u8]) -> String {
-    let text = std::str::from_utf8(output).expect("a line of text");
-    let line = text.strip_suffix('\n').expect("a line feed at the end");
-    assert!(!line.contains('\n'), "one line only");
-    line.to_string()
+    let mut lines = lines(output);
+    assert_eq!(lines.len(), 1, "one line only");
+    lines.remove(0)
+}
+
+/// Each line ends in one line feed, the last one too.
+pub fn lines(output: &[u8]) -> Vec<String> {
+    let text = std::str::from_utf8(output).expect("lines of text");
+    let ended = text.strip_suffix('\n').expect("a line feed at the end");
+    ended.split('\n').map(str::to_string).collect()
 }
 
 /// The version bytes that no form has.
