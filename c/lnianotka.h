@@ -17,8 +17,9 @@ extern "C" {
 size_t lnianotka_judge_input(void);
 size_t lnianotka_cut_input(void);
 
-/* Room enough for every answer of the judge, and of the cutter. */
+/* Room enough for every answer of the judge, of the census, and of the cutter. The census reads what the judge reads. */
 size_t lnianotka_judge_answer(void);
+size_t lnianotka_census_answer(void);
 size_t lnianotka_cut_answer(void);
 
 /* The number of the first refusal, 1 to 10, that applies to a network record, with its place in `*place`; both are 0 where the
@@ -29,6 +30,10 @@ uint8_t lnianotka_check(const uint8_t *network, size_t length, size_t *place);
  * 'p' on a pass, with 'f' on a finding and with 'r' on a refusal. Answers the line's length. The line stands at the start
  * of `out` where it fits in `room` bytes, and the bytes behind it keep their values; where it does not fit, all of them do. */
 size_t lnianotka_judge(const uint8_t *input, size_t length, uint8_t *out, size_t room);
+
+/* What the counting program prints when it reads `input`, which is the judge's: the judge's line, and behind a pass what it carried, with a
+ * line `silent ID` for every own box that holds no route though nobody asked for it. Answers and writes as lnianotka_judge does. */
+size_t lnianotka_census(const uint8_t *input, size_t length, uint8_t *out, size_t room);
 
 /* What the cutting program writes when it reads `input`: a network record, one byte for the fragment asked, and then a
  * sheet record. A fragment begins with a zero byte, a refused line with 'r'. Answers and writes as lnianotka_judge does. */

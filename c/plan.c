@@ -1,5 +1,6 @@
-/* The library from C: `plan check` reads a network from standard input and says whether it is sound, `plan judge` and `plan cut` are the
- * two programs. The status is 0 for a sound network, a pass or a fragment, 1 for a finding, 2 for a refusal, 3 where there is no answer. */
+/* The library from C: `plan check` reads a network from standard input and says whether it is sound, `plan judge`, `plan census` and
+ * `plan cut` are the programs. The status is 0 for a sound network, a pass or a fragment, 1 for a finding or a silent box in a census, 2 for
+ * a refusal, 3 where there is no answer. */
 #include "lnianotka.h"
 
 #include <stdio.h>
@@ -45,6 +46,21 @@ static int status_of(uint8_t first)
     }
 }
 
+/* Whether a census names a silent box. No other answer has a line that begins so: a fragment begins with a zero byte, and is none. */
+static int silent_in(const uint8_t *text, size_t length)
+{
+    static const char word[] = "\nsilent ";
+    if (length == 0 || text[0] != 'p') {
+        return 0;
+    }
+    for (size_t at = 0; at + sizeof word - 1 <= length; at++) {
+        if (memcmp(text + at, word, sizeof word - 1) == 0) {
+            return 1;
+        }
+    }
+    return 0;
+}
+
 static int answer(program *answer_to, size_t longest, size_t room)
 {
     size_t length;
@@ -56,6 +72,9 @@ static int answer(program *answer_to, size_t longest, size_t room)
     size_t written = answer_to(input, length, out, room);
     if (fwrite(out, 1, written, stdout) != written || fflush(stdout) != 0) {
         return fail("the answer could not be written");
+    }
+    if (silent_in(out, written)) {
+        return finding;
     }
     return status_of(out[0]);
 }
@@ -87,8 +106,11 @@ int main(int count, char **words)
     if (count == 2 && strcmp(words[1], "judge") == 0) {
         return answer(lnianotka_judge, lnianotka_judge_input(), lnianotka_judge_answer());
     }
+    if (count == 2 && strcmp(words[1], "census") == 0) {
+        return answer(lnianotka_census, lnianotka_judge_input(), lnianotka_census_answer());
+    }
     if (count == 2 && strcmp(words[1], "cut") == 0) {
         return answer(lnianotka_cut, lnianotka_cut_input(), lnianotka_cut_answer());
     }
-    return fail("usage: plan check < NETWORK, plan judge < PLAN, or plan cut < PLAN > FRAGMENT");
+    return fail("usage: plan check < NETWORK, plan judge < PLAN, plan census < PLAN, or plan cut < PLAN > FRAGMENT");
 }

@@ -1,6 +1,6 @@
 -- What the counting program prints: the judge's line, and behind a pass the census.
 use mathlib.Core.List.{List, [], _++_}
-use Prim.Native.Nat.{ℕ}
+use Prim.Native.Nat.{ℕ, _+_, _*_}
 use Rattle.lists.specs.Answer.{Answer, given, refused}
 use Rattle.routes.specs.Carry.{highest}
 use Rattle.routes.specs.declared.Route.{Route}
@@ -11,6 +11,7 @@ use Rattle.reading.specs.House.{house}
 use Rattle.reading.specs.Whole.{readNetwork, readList, networkOf, listOf}
 use Rattle.layout.specs.declared.Form.{Form}
 use Rattle.lines.specs.Bound.{withinBound}
+use Rattle.lines.specs.Line.{longestLine}
 use Rattle.lines.specs.Split.{firstRecord, restOf}
 use Rattle.judging.specs.Judging.{judgeRecords}
 use Rattle.judging.specs.Text.{verdictLine, judgeBound}
@@ -34,6 +35,10 @@ censusFrom f network list answer = verdictLine answer
 unfoldable pub censusRecords : List ℕ → List ℕ → List ℕ
 censusRecords network list =
     verdictLine (judgeRecords network list) ++ behindPass (judgeRecords network list) (censusLines (censusOf network list))
+
+-- Room enough for every census: the judge's line, four lines of counts, and a line for each of as many boxes as a record can have.
+abbrev pub longestCensus : ℕ
+longestCensus = longestLine + 400 + 28 * 1024
 
 -- The first record is the network, and the rest is the list, as the judge's input has them.
 unfoldable pub censusText : List ℕ → List ℕ

@@ -7,7 +7,7 @@ ghost use Rattle.preparing.specs.Prepared.{Prepared, Standing};
 ghost use Rattle.judging.specs.Text.{verdictLine};
 ghost use Rattle.judging.specs.Judging.{verdictAt};
 ghost use Rattle.counting.specs.Rows.{passRows};
-ghost use Rattle.counting.specs.Text.{censusFrom, censusRecords, censusText};
+ghost use Rattle.counting.specs.Text.{censusFrom, censusRecords, longestCensus, censusText};
 use crate::Tally;
 use crate::text::put_census;
 use crate::text::tally;
@@ -18,10 +18,21 @@ use judging::verdict_line;
 use layout::Check;
 use layout::Form;
 use layout::ROWS;
+use lines::LONGEST_LINE;
 use lines::Line;
 use lines::first_length;
 use lines::place_line;
 use preparing::prepare;
+
+// Room enough for every census: the judge's line, four lines of counts, and the line of every box.
+pub const LONGEST_CENSUS: usize = LONGEST_LINE + 400 + 28 * ROWS;
+
+// The same, held to its definition.
+pub fn longest_census() -> usize
+    ensures { λ r. ⌜ r ≡ longestCensus ⌝ }
+{
+    LONGEST_CENSUS
+}
 
 // Places the census of a pass at the start of out where it fits, and answers its length.
 fn place_pass<'a>(

@@ -4,8 +4,10 @@ mod counts;
 mod entry;
 mod text;
 
+pub use entry::LONGEST_CENSUS;
 pub use entry::census;
 pub use entry::census_bytes;
+pub use entry::longest_census;
 
 // What is counted of a network's nodes under a list.
 pub enum Counted {

@@ -1,4 +1,4 @@
-// What programs in other languages link: the check, the judge and the cutter, from bytes to bytes, and the rooms that these take.
+// What programs in other languages link: the check, the judge, the census and the cutter, from bytes to bytes, and the rooms that these take.
 //
 // The archive that `rt staticlib library` writes has the functions below under their own names, by C's calling convention;
 // a slice is handed over as a pointer and a length (c/lnianotka.h). No function has a `requires`: a caller in
@@ -11,6 +11,7 @@ ghost use Rattle.layout.specs.Refusals.{numberIn};
 ghost use Rattle.records.specs.Network.{networkRefusal};
 ghost use Rattle.library.specs.Place.{placeIn};
 ghost use Rattle.judging.specs.Text.{judgeText, judgeBound};
+ghost use Rattle.counting.specs.Text.{censusText, longestCensus};
 ghost use Rattle.cutting.specs.Text.{cutText, cutBound};
 use layout::Check;
 use layout::number_of;
@@ -55,6 +56,14 @@ pub extern "C" fn lnianotka_judge_answer() -> usize
     LONGEST_LINE
 }
 
+// Room enough for every census.
+#[no_mangle]
+pub extern "C" fn lnianotka_census_answer() -> usize
+    ensures { λ r. ⌜ r ≡ longestCensus ⌝ }
+{
+    counting::longest_census()
+}
+
 // The longest input that is cut; a longer one is refused.
 #[no_mangle]
 pub extern "C" fn lnianotka_cut_input() -> usize
@@ -79,6 +88,15 @@ pub extern "C" fn lnianotka_judge(input: &[u8], out: &mut [u8]) -> usize
     ensures text { λ _. ⌜ now (out .exit) ≡ placed (judgeText (now (input .entry))) (now (out .entry)) ⌝ }
 {
     judging::judge_bytes(input, out)
+}
+
+// What the counting program prints when it reads these bytes: its length, and the text itself at the start of out where it fits.
+#[no_mangle]
+pub extern "C" fn lnianotka_census(input: &[u8], out: &mut [u8]) -> usize
+    ensures count { λ r. ⌜ r ≡ length (censusText (now (input .entry))) ⌝ }
+    ensures text { λ _. ⌜ now (out .exit) ≡ placed (censusText (now (input .entry))) (now (out .entry)) ⌝ }
+{
+    counting::census_bytes(input, out)
 }
 
 // What the cutting program writes when it reads these bytes: its length, and the bytes themselves at the start of out where

@@ -1,4 +1,4 @@
--- No line is longer than the longest: at most 21 bytes for each word behind its space.
+-- No line is longer than the longest: at most 21 bytes for each word behind its space (line-short).
 use Prim.Native.Nat.{ℕ, _+_, _*_, _≤_}
 use mathlib.Core.List.{List, [], _∷_, _++_}
 use native.Mathlib.Omega.{arith}
@@ -10,7 +10,7 @@ use Rattle.routes.specs.declared.Route.the-variants.{None, Held}
 use Rattle.lines.specs.Line.{text, spaced, line, routeWords, passLine, refusedLine, foundLine, longestLine}
 
 -- every word is no longer than 20 bytes
-abbrev Short : List (List ℕ) → Type 0
+abbrev pub Short : List (List ℕ) → Type 0
 Short [] = Unit {0}
 Short (w ∷ ws) = (length w ≤ 20) × Short ws
 
@@ -19,7 +19,7 @@ unfolding spaced
 spaced-short [] s = omega arith
 spaced-short (w ∷ ws) s = let h = spaced-short ws (s .1) in omega (arith, length-append w (spaced ws), s .0)
 
-line-short : (first : List ℕ) (ws : List (List ℕ)) → Short ws → length (line first ws) ≤ length first + 21 * length ws + 1
+pub line-short : (first : List ℕ) (ws : List (List ℕ)) → Short ws → length (line first ws) ≤ length first + 21 * length ws + 1
 unfolding line
 line-short first ws s = let h = spaced-short ws s in omega (arith, length-append first (spaced ws ++ text "\n"), length-append (spaced ws) (text "\n"))
 

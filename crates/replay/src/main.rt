@@ -6,6 +6,7 @@
 // run ends.
 ghost use Prim.Native.Nat.{_≤_};
 ghost use lib.ListN.{length};
+use counting::census_bytes;
 use cutting::CutAnswer;
 use cutting::cut;
 use cutting::cut_bytes;
@@ -76,6 +77,7 @@ fn answer(call: u8, input: &[u8], out: &mut [u8]) -> usize
         0 => judge_bytes(input, out),
         1 => cut_bytes(input, out),
         2 => cut_lent(input, out),
+        3 => census_bytes(input, out),
         _ => place_line(Line::Refused(0, wide(call)), out),
     }
 }
