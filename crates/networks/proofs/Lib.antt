@@ -1,20 +1,24 @@
 -- The theorems about networks, one a file, and the laws that they rest on.
 --     SoundTest                    soundness as a fact and as a test
 --     Passing, SameAnswer          demand 2, of the judge; lists that agree
+--     SameCut                      sheets that agree
 --     Refusals                     17, 18 and 19 with their places
 --     PaperCut, FragmentSound, OneFragment     the fragment: the paper's, sound, and the network itself where nothing is cut
 --     FragmentsAndWhole, Recutting     the two halves of demand 3
+--     Apart                        fragments with no own box in common
 --     PaperTheorems                what document 000 proves
 --     Laws                         all else
 pub mod SoundTest
 pub mod Passing
 pub mod SameAnswer
+pub mod SameCut
 pub mod Refusals
 pub mod PaperCut
 pub mod FragmentSound
 pub mod OneFragment
 pub mod FragmentsAndWhole
 pub mod Recutting
+pub mod Apart
 pub mod PaperTheorems
 pub mod BestRoute
 pub mod Laws

@@ -2,6 +2,8 @@
 pub mod Cuts
 pub mod Demand1
 pub mod Demand2
+pub mod JudgedCount
 pub mod Demand3
 pub mod SameAnswer
 pub mod Determined
+pub mod Contracts

@@ -2,8 +2,10 @@
 pub mod Calls
 pub mod Demand1
 pub mod Demand2
+pub mod JudgedCount
 pub mod Demand3
 pub mod SameAnswer
+pub mod Answers
 pub mod Determined
 pub mod BenchNetworks
 pub mod Bench
