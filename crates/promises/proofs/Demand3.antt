@@ -42,11 +42,10 @@ module _ (network list : List ℕ) (n : SoundRecord network) (l : WellFormed lis
       rw all at e
 
 -- a buffer with room
-blank : Form → List ℕ
+abbrev pub blank : Form → List ℕ
 blank f = replicate (largestNetwork f) 0
 
-blank-roomy : (f : Form) → Roomy f (blank f)
-unfolding blank
+pub blank-roomy : (f : Form) → Roomy f (blank f)
 blank-roomy f = let e = length-replicate {A = ℕ} (largestNetwork f) 0 in omega arith
 
 module _ (network sheet list : List ℕ) (small : Bytes network) (sheet-small : Bytes sheet) (l : WellFormed listLead list) (k : ℕ) (G : HouseNetwork)

@@ -5,5 +5,6 @@ pub mod Demand2
 pub mod JudgedCount
 pub mod Demand3
 pub mod SameAnswer
+pub mod Answers
 pub mod Determined
 pub mod Contracts
