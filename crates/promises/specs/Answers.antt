@@ -1,70 +1,45 @@
--- The demands once more, about what the functions return. A suite is any judge and any cutter that meet the contracts of `judge` and `cut`, so
--- that all of this holds of the code. An enum's cases are read by `answerOf`, which gives document 01's number and values for each.
---     JudgeReturns, CutReturns      what the two contracts allow; proofs/Contracts.antt holds both to the contracts themselves
---     Suite                         a judge and a cutter that meet them
---     Passed, cutOut, cutOutTwice   a pass; the record that a cut leaves, and that one cut leaves of another's
---     RefusesByTable .. KeepsBuffer     demand 1
---     ReturnsPass .. LaysFragment       demand 2
---     CutsAlike .. ApartReturns         demand 3
---     SameVerdict, SameRecord           lists and sheets that agree
+-- The demands once more, about what the functions return: the statements hold of every suite, so of the code.
+--     Passed, cutOut, cutOutTwice      a pass; the record that a cut leaves, and that one cut leaves of another's
+--     KeepsBuffer                      demand 1
+--     ReturnsPass .. LaysFragment      demand 2
+--     CutsAlike .. ApartReturns        demand 3
+--     SameVerdict, SameRecord          lists and sheets that agree
 use mathlib.Core.Path.{_≡_}
 use mathlib.Core.Bool.{true}
-use mathlib.Core.List.{List, [], _∷_, _++_}
+use mathlib.Core.List.{List, _++_}
 use mathlib.Core.Logic.{_↔_, _⊎_}
 use mathlib.Core.Option.{none, some}
 use Prim.Native.Nat.{ℕ, _≤_, _<_}
-use lib.Dec.{ltb}
 use lib.ListN.{length, take, drop}
 use Rattle.lists.specs.All.{All}
 use Rattle.lists.specs.Answer.{Answer, given, refused, andThen, NoneApplies}
 use Rattle.lists.specs.Bytes.{Bytes}
-use Rattle.lists.specs.Test.{firstOf}
 use Rattle.routes.specs.declared.Demand.{Demand}
 use Rattle.routes.specs.declared.Route.{Route}
 use Rattle.networks.specs.Cut.{Agrees}
-use Rattle.networks.specs.Judge.{found, fault, upTo, verdictFrom, judged}
+use Rattle.networks.specs.Judge.{found, fault, judged}
 use Rattle.networks.specs.Lowest.{LowestOwn, Entered}
 use Rattle.networks.specs.Network.{Own, own, ownBoxes, box, owns}
 use Rattle.networks.specs.Sheets.{number, listed}
 use Rattle.networks.specs.Solution.{mapping, Solution, Demands}
 use Rattle.layout.specs.Form.{formOf, listLead, sheetLead}
-use Rattle.layout.specs.declared.Class.{Class}
 use Rattle.layout.specs.declared.Class.the-variants.{NoEntry, NoFragment, NoRoom}
 use Rattle.layout.specs.declared.Refusal.{Refusal}
 use Rattle.entries.specs.Entries.{WellFormed}
 use Rattle.records.specs.Network.{SoundRecord}
 use Rattle.reading.specs.Whole.{HouseNetwork, HouseList, networkOf, sheetOf, listOf}
-use Rattle.judging.specs.Answers as judge
-use Rattle.judging.specs.Judging.{judgeRecords}
+use Rattle.judging.specs.Answers as judging
 use Rattle.judging.specs.declared.Verdict.{Verdict}
 use Rattle.judging.specs.declared.Verdict.the-variants as verdict
-use Rattle.cutting.specs.Answers as cut
-use Rattle.cutting.specs.Cutting.{cutRecords, cutBuffer}
+use Rattle.cutting.specs.Answers as cutting
 use Rattle.cutting.specs.declared.CutAnswer.{CutAnswer}
 use Rattle.cutting.specs.declared.CutAnswer.the-variants as answer
 use Rattle.promises.specs.Calls.{house1, Roomy, SheetCuts}
-use Rattle.promises.specs.Demand1.{judgingTable, cuttingTable, fragmentRecord}
+use Rattle.promises.specs.Demand1.{cuttingTable, fragmentRecord}
 use Rattle.promises.specs.Demand3.{Refined, apartPlace}
 use Rattle.promises.specs.JudgedCount.{countOf}
 use Rattle.promises.specs.SameAnswer.{ListsAgree, SheetsAgree}
-
--- `judge` may return v.
-abbrev pub JudgeReturns : List ℕ → List ℕ → Verdict → Type 0
-JudgeReturns network list v = judge.answerOf v ≡ judgeRecords network list
-
--- `cut` may return c, and leave `after` in the buffer that was lent to it with `out`.
-abbrev pub CutReturns : List ℕ → List ℕ → ℕ → List ℕ → CutAnswer → List ℕ → Type 0
-CutReturns network sheet k out c after = (cut.answerOf c ≡ cutRecords network sheet k (length out)) × (after ≡ cutBuffer network sheet k out)
-
--- The contracts are met on all bytes, and a fragment is asked by a byte.
-pub record Suite : Type 0 where
-  pub judge : List ℕ → List ℕ → Verdict
-  pub cut : List ℕ → List ℕ → ℕ → List ℕ → CutAnswer
-  -- what the lent buffer holds at exit
-  pub after : List ℕ → List ℕ → ℕ → List ℕ → List ℕ
-  pub judges : (network list : List ℕ) → Bytes network → Bytes list → JudgeReturns network list (judge network list)
-  pub cuts : (network sheet : List ℕ) (k : ℕ) (out : List ℕ) → Bytes network → Bytes sheet → k < 256 → Bytes out
-      → CutReturns network sheet k out (cut network sheet k out) (after network sheet k out)
+use Rattle.promises.specs.Suite.{Suite}
 
 abbrev pub Passed : Verdict → Type 0
 Passed v = (count : ℕ) × (v ≡ verdict.Pass count)
@@ -72,7 +47,7 @@ Passed v = (count : ℕ) × (v ≡ verdict.Pass count)
 module _ (s : Suite) where
   -- As many bytes from the start of the buffer as the cut answers, or its refusal.
   abbrev pub cutOut : List ℕ → List ℕ → ℕ → List ℕ → Answer (List ℕ)
-  cutOut network sheet k out = andThen (cut.answerOf (s .cut network sheet k out)) (λ (n : ℕ). given (take n (s .after network sheet k out)))
+  cutOut network sheet k out = andThen (cutting.answerOf (s .cut network sheet k out)) (λ (n : ℕ). given (take n (s .after network sheet k out)))
 
   -- one cut upon another's record
   abbrev pub cutOutTwice : List ℕ → List ℕ → ℕ → List ℕ → List ℕ → ℕ → List ℕ → Answer (List ℕ)
@@ -88,11 +63,6 @@ module _ (s : Suite) where
     abbrev v : Verdict
     v = s .judge network list
 
-    -- Demand 1: a refusal is the first row of the table that applies; otherwise the verdict is on all own boxes.
-    abbrev pub RefusesByTable : Type 0
-    RefusesByTable = Bytes network → Bytes list
-        → judge.answerOf v ≡ firstOf (judgingTable network list) (given (verdictFrom house1 N L 0 (ownBoxes N)))
-
     -- Demand 2: a proposal passes exactly where both records are in order, every own box has an entry, equations 6 to 8 hold of what it
     -- says, and every demand is met.
     abbrev pub ReturnsPass : Type 0
@@ -101,13 +71,13 @@ module _ (s : Suite) where
 
     -- A finding is the first one at an own box, and no own box with a lower id has any.
     abbrev pub ReturnsFirst : Type 0
-    ReturnsFirst = Bytes network → Bytes list → (number node count : ℕ) (route : Route) → judge.answerOf v ≡ given (found number node route count)
+    ReturnsFirst = Bytes network → Bytes list → (number node count : ℕ) (route : Route) → judging.answerOf v ≡ given (found number node route count)
         → ((b : Own Route Demand) × (box N node ≡ some (own b)) × (fault house1 N L b ≡ some (record { number = number; route = route })))
         × All (λ (d : Own Route Demand). d .id < node → fault house1 N L d ≡ none) (ownBoxes N)
 
     -- The judged count of every verdict is of all own boxes on a pass, of those up to the named one on a finding, and 0 on a refusal.
     abbrev pub ReturnsCount : Type 0
-    ReturnsCount = Bytes network → Bytes list → judged (judge.answerOf v) ≡ countOf N (judge.answerOf v)
+    ReturnsCount = Bytes network → Bytes list → judged (judging.answerOf v) ≡ countOf N (judging.answerOf v)
 
     -- A box without an entry is never judged: the call is refused for want of an entry, at the lowest such box.
     abbrev pub AsksEntry : Type 0
@@ -123,12 +93,7 @@ module _ (s : Suite) where
       abbrev c : CutAnswer
       c = s .cut network sheet k out
 
-      -- Demand 1: so does the cutter refuse, with 20 as its last row,
-      abbrev pub CutsByTable : Type 0
-      CutsByTable = Bytes network → Bytes sheet → k < 256 → Bytes out → cut.answerOf c ≡ firstOf
-          (cuttingTable network sheet k ++ ((ltb (length out) (length F), refused 20 (length F)) ∷ [])) (given (length F))
-
-      -- and a refusal leaves the buffer as it was.
+      -- Demand 1: a refusal leaves the buffer as it was.
       abbrev pub KeepsBuffer : Type 0
       KeepsBuffer = Bytes network → Bytes sheet → k < 256 → Bytes out → (r : Refusal) → c ≡ answer.Refused r → s .after network sheet k out ≡ out
 
@@ -142,7 +107,7 @@ module _ (s : Suite) where
     -- A sheet cuts a network where the cutter refuses by it for want of the fragment or of room alone.
     abbrev pub CutsAlike : Type 0
     CutsAlike = Bytes network → Bytes sheet → ((k : ℕ) (out : List ℕ) (r : Refusal) → k < 256 → Bytes out → s .cut network sheet k out ≡ answer.Refused r
-        → _⊎_ (_≡_ {A = Class} (r .class) NoFragment) (r .class ≡ NoRoom)) ↔ SheetCuts network sheet
+        → (r .class ≡ NoFragment) ⊎ (r .class ≡ NoRoom)) ↔ SheetCuts network sheet
 
     -- Demand 3, fragments and whole: the list passes in every fragment that the cutter gives exactly where it passes in the whole and has the
     -- note at each box that a cut wire leaves.

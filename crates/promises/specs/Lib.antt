@@ -5,6 +5,7 @@ pub mod Demand2
 pub mod JudgedCount
 pub mod Demand3
 pub mod SameAnswer
+pub mod Suite
 pub mod Answers
 pub mod Determined
 pub mod BenchNetworks
