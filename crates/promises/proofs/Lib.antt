@@ -8,3 +8,4 @@ pub mod SameAnswer
 pub mod Answers
 pub mod Determined
 pub mod Contracts
+pub mod SomeSuite
