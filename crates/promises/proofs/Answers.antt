@@ -38,7 +38,9 @@ use Rattle.cutting.specs.declared.CutAnswer.{CutAnswer}
 use Rattle.cutting.specs.declared.CutAnswer.the-variants as answer
 use Rattle.cutting.proofs.Answers.{one-cut}
 use Rattle.cutting.proofs.OnBytes.{record-small}
-use Rattle.promises.specs.Answers.{Passed, cutOut, cutOutTwice, ReturnsPass, ReturnsFirst, ReturnsCount, AsksEntry, KeepsBuffer, LaysFragment, CutsAlike, PartsAndWhole, TwiceIsOnce, ApartReturns, SameVerdict, SameRecord}
+use Rattle.promises.specs.Answers.{Passed, cutOut, cutOutTwice}
+use Rattle.promises.specs.Answers.{ReturnsPass, ReturnsFirst, ReturnsCount, AsksEntry, KeepsBuffer, LaysFragment}
+use Rattle.promises.specs.Answers.{CutsAlike, PartsAndWhole, TwiceIsOnce, ApartReturns, SameVerdict, SameRecord}
 use Rattle.promises.specs.Calls.{Passes, cutInto, Roomy, SheetCuts}
 use Rattle.promises.specs.Demand1.{cuttingTable, fragmentRecord}
 use Rattle.promises.specs.Demand3.{cutTwice}

@@ -1,10 +1,8 @@
--- One result of each function of what a cut is read from, and its record: its contract is an equation for the result and for what a lent buffer holds, and two
--- things that are equal to a third are equal.
-use mathlib.Core.Path.{_≡_}
-use contract.Lifetimes.{Lfts}
-use denote.Ref.{now}
+-- One result of each function that a cut is made of: the tables by rows that it fills, the rows that it finds, and the fragment's record.
 use mathlib.Core.List.{List}
 use Prim.Native.Nat.{ℕ}
+use contract.Lifetimes.{Lfts}
+use denote.Ref.{now}
 use Rattle.marking.proofs.number_rows.Reads as number-rows
 use Rattle.marking.proofs.first_inside.Reads as first-inside
 use Rattle.marking.proofs.first_clash.Reads as first-clash
@@ -26,7 +24,9 @@ one-first-clash κs a r r′ e e′ p q = cc
 pub one-note-offset : (κs : Lfts 3) → One (note-offset.Post κs) (λ r e. r)
 one-note-offset κs a r r′ e e′ p q = cc
 
-pub one-mark-wires : (κs : Lfts 5) → One {B = ℕ × List ℕ × List ℕ} (mark-wires.Post κs) (λ r e. (r, now (e .1 .1 .1 .1 .1 .1 .0), now (e .1 .1 .1 .1 .1 .1 .1 .0)))
+pub one-mark-wires : (κs : Lfts 5)
+    → One {B = ℕ × List ℕ × List ℕ} (mark-wires.Post κs)
+    (λ r e. (r, now (e .1 .1 .1 .1 .1 .1 .0), now (e .1 .1 .1 .1 .1 .1 .1 .0)))
 one-mark-wires κs a r r′ e e′ p q = cc
 
 pub one-classify-rows : (κs : Lfts 7) → One {B = ℕ × List ℕ} (classify-rows.Post κs) (λ r e. (r, now (e .1 .1 .1 .1 .1 .1 .1 .1 .1 .0)))

@@ -1,10 +1,9 @@
--- One result of each function of the parts of a record: its contract is an equation for the result and for what a lent buffer holds, and two
--- things that are equal to a third are equal.
-use mathlib.Core.Path.{_≡_}
-use contract.Lifetimes.{Lfts}
-use denote.Ref.{now}
+-- One result of each function that reads a part of a record. A contract is an equation for the result, and of `place_entries` one for the
+-- table too, by its result.
 use mathlib.Core.List.{List}
 use Prim.Native.Nat.{ℕ}
+use contract.Lifetimes.{Lfts}
+use denote.Ref.{now}
 use Rattle.layout.proofs.form_of.Reads as form-of
 use Rattle.layout.proofs.policy_offset.Reads as policy-offset
 use Rattle.layout.proofs.node_part.Reads as node-part

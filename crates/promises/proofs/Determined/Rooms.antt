@@ -1,6 +1,4 @@
--- One result of each function of the longest inputs and the rooms of answers: its contract is an equation for the result and for what a lent buffer holds, and two
--- things that are equal to a third are equal.
-use mathlib.Core.Path.{_≡_}
+-- One result of each function that says how long an input or an answer can be.
 use contract.Lifetimes.{Lfts}
 use Rattle.judging.proofs.longest_input.Reads as judging-longest-input
 use Rattle.cutting.proofs.longest_input.Reads as cutting-longest-input

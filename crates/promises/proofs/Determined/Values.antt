@@ -1,6 +1,5 @@
--- One result of each function of numbers and routes: its contract is an equation for the result and for what a lent buffer holds, and two
+-- One result of each function on numbers and routes. A contract is an equation for the result, or for the buffer that is written to, and two
 -- things that are equal to a third are equal.
-use mathlib.Core.Path.{_≡_}
 use contract.Lifetimes.{Lfts}
 use denote.Ref.{now}
 use Rattle.numbers.proofs.wide.Reads as wide

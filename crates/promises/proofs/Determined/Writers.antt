@@ -1,10 +1,8 @@
--- One result of each function of records and lines laid down: its contract is an equation for the result and for what a lent buffer holds, and two
--- things that are equal to a third are equal.
-use mathlib.Core.Path.{_≡_}
-use contract.Lifetimes.{Lfts}
-use denote.Ref.{now}
+-- One result of each function that lays down a part of a record or of a line: how many bytes, or the offset behind them, and the buffer.
 use mathlib.Core.List.{List}
 use Prim.Native.Nat.{ℕ}
+use contract.Lifetimes.{Lfts}
+use denote.Ref.{now}
 use Rattle.writing.proofs.size_of.Reads as size-of
 use Rattle.writing.proofs.put_head.Reads as put-head
 use Rattle.writing.proofs.put_policies.Reads as put-policies
