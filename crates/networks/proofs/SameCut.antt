@@ -4,7 +4,7 @@
 -- sheet, box by box and wire by wire, is the same of the second.
 use mathlib.Core.Path.{_≡_, refl, ap, ap₂}
 use mathlib.Core.Bool.{Bool, true, false, cond, not, _&&_}
-use mathlib.Core.Option.{Option, none, some}
+use mathlib.Core.Option.{Option, some}
 use mathlib.Core.List.{List, [], _∷_, filterMap}
 use Prim.Native.Nat.{ℕ}
 use lib.Dec.{eqb}
@@ -18,7 +18,7 @@ use Rattle.networks.specs.Network.{Own, Box, own, input, Wire, Network, 
 use Rattle.networks.specs.Sound.{Bounds, Joined, Sound}
 use Rattle.networks.specs.Sheets.{Sheet, number, note}
 use Rattle.networks.specs.Lowest.{lowest, unentered}
-use Rattle.networks.specs.Cut.{isCut, leaves, feeds, piece, fragmentOf, fragment, numbered, offNote, clashes, cut}
+use Rattle.networks.specs.Cut.{isCut, leaves, feeds, piece, fragmentOf, numbered, offNote, clashes, cut}
 use Rattle.networks.proofs.Laws.Boxes.{own-fact}
 
 lowest-congr : {R D : Type 0} (p q : Own R D → Bool) (bs : List (Own R D)) → All (λ (b : Own R D). p b ≡ q b) bs → lowest p bs ≡ lowest q bs

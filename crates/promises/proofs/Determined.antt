@@ -8,7 +8,7 @@ pub mod Tables
 pub mod Writers
 pub mod Fragments
 pub mod Rooms
-use mathlib.Core.Path.{_≡_, sym, _∙_}
+use mathlib.Core.Path.{sym, _∙_}
 use Rattle.layout.proofs.Cases.{one-check}
 use Rattle.judging.proofs.Answers.{one-verdict}
 use Rattle.cutting.proofs.Answers.{one-cut}
