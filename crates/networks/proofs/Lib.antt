@@ -5,7 +5,7 @@
 --     Refusals                     17, 18 and 19 with their places
 --     PaperCut, FragmentSound, OneFragment     the fragment: the paper's, sound, and the network itself where nothing is cut
 --     FragmentsAndWhole, Recutting     the two halves of demand 3
---     Apart                        fragments with no own box in common
+--     TwiceRefused                 fragments with no own box in common
 --     PaperTheorems                what document 000 proves
 --     Laws                         all else
 pub mod SoundTest
@@ -18,7 +18,7 @@ pub mod FragmentSound
 pub mod OneFragment
 pub mod FragmentsAndWhole
 pub mod Recutting
-pub mod Apart
+pub mod TwiceRefused
 pub mod PaperTheorems
 pub mod BestRoute
 pub mod Laws

@@ -14,7 +14,7 @@ use Rattle.networks.specs.Sheets.{number, listed}
 use Rattle.networks.specs.Sound.{Sound}
 use Rattle.networks.proofs.FragmentsAndWhole.{fragments-and-whole}
 use Rattle.networks.proofs.Passing.{pass-count}
-use Rattle.networks.proofs.Apart.{apart-place}
+use Rattle.networks.proofs.TwiceRefused.{apart-place}
 use Rattle.networks.proofs.Recutting.{swapped, first-then-second, second-then-first, third-given}
 use Rattle.reading.specs.Largest.{largestNetwork}
 use Rattle.reading.specs.Whole.{HouseNetwork, bounds, writeNetwork, networkOf, sheetOf, listOf, readNetwork}
