@@ -1,4 +1,5 @@
--- The proofs of the statements in specs/, under the same names; Cuts has what they share about cuts.
+-- The proofs of the statements in specs/, under the same names. Cuts has what they share about cuts, Contracts that a suite does what the
+-- code's contracts ask, and SomeSuite that there is one.
 pub mod Cuts
 pub mod Demand1
 pub mod Demand2
