@@ -1,17 +1,20 @@
 -- The theorems about networks, one a file, and the laws that they rest on.
 --     SoundTest                    soundness as a fact and as a test
 --     Passing, SameAnswer          demand 2, of the judge; lists that agree
+--     SameCut                      sheets that agree
 --     Refusals                     17, 18 and 19 with their places
 --     PaperCut, FragmentSound, OneFragment     the fragment: the paper's, sound, and the network itself where nothing is cut
 --     Covering                     the fragments together: they cover the network, and across a cut one promises what the other assumes
 --     FragmentsAndWhole, Recutting     the two halves of demand 3
 --     Counting                     the fragments' judged counts
 --     Silence                      what a pass carried
+--     TwiceRefused                 fragments with no own box in common
 --     PaperTheorems                what document 000 proves
 --     Laws                         all else
 pub mod SoundTest
 pub mod Passing
 pub mod SameAnswer
+pub mod SameCut
 pub mod Refusals
 pub mod PaperCut
 pub mod Covering
@@ -21,6 +24,7 @@ pub mod FragmentsAndWhole
 pub mod Counting
 pub mod Silence
 pub mod Recutting
+pub mod TwiceRefused
 pub mod PaperTheorems
 pub mod BestRoute
 pub mod Laws

@@ -125,7 +125,7 @@ neither : (m : ℕ) → leb m 17 ≡ true → (m ≡ 18) ⊎ (m ≡ 20) → ⊥
 neither m e h = let l = leb-true m 17 e in ⊎-elim (λ e. omega arith) (λ e. omega arith) h
 
 -- a well-formed sheet has no number over 64, which stands for no entry
-number-small : (S : HouseSheet) → All (λ (e : SheetEntry Route). e .fragment ≤ 63) S → (i : ℕ) → number S i ≤ 64
+pub number-small : (S : HouseSheet) → All (λ (e : SheetEntry Route). e .fragment ≤ 63) S → (i : ℕ) → number S i ≤ 64
 unfolding number
 number-small S h i = go (sheetEntry S i) refl
   where

@@ -14,7 +14,8 @@ use Rattle.networks.specs.Sheets.{number, listed}
 use Rattle.networks.specs.Sound.{Sound}
 use Rattle.networks.proofs.FragmentsAndWhole.{fragments-and-whole}
 use Rattle.networks.proofs.Passing.{pass-count}
-use Rattle.networks.proofs.Recutting.{first-then-second, second-then-first, third-given, apart-refused}
+use Rattle.networks.proofs.TwiceRefused.{apart-place}
+use Rattle.networks.proofs.Recutting.{swapped, first-then-second, second-then-first, third-given}
 use Rattle.reading.specs.Largest.{largestNetwork}
 use Rattle.reading.specs.Whole.{HouseNetwork, bounds, writeNetwork, networkOf, sheetOf, listOf}
 use Rattle.judging.proofs.OnBytes.{judge-said}
@@ -41,11 +42,10 @@ module _ (network list : List ℕ) (n : SoundRecord network) (l : WellFormed lis
       rw all at e
 
 -- a buffer with room
-pub blank : Form → List ℕ
+abbrev pub blank : Form → List ℕ
 blank f = replicate (largestNetwork f) 0
 
 pub blank-roomy : (f : Form) → Roomy f (blank f)
-unfolding blank
 blank-roomy f = let e = length-replicate {A = ℕ} (largestNetwork f) 0 in omega arith
 
 module _ (network sheet list : List ℕ) (small : Bytes network) (sheet-small : Bytes sheet) (l : WellFormed listLead list) (k : ℕ) (G : HouseNetwork)
@@ -141,9 +141,12 @@ common-refinement network X Y Z r w own o₁ o₂ o₃ roomy₁ roomy₂ roomy�
     other = second-then-first house1 (bounds (formOf network)) (networkOf network) (sheetOf X) (sheetOf Y) (sheetOf Z) (sound network X Y Z r) (r .third) (cuts network X Y Z r) w own
 
 pub apart-refuses : (network X Y Z : List ℕ) → ApartRefused network X Y Z
-apart-refuses network X Y Z r x y apart o₁ o₂ roomy₁ roomy₂ =
-    let a = apart-refused house1 (bounds (formOf network)) (networkOf network) (sheetOf X) (sheetOf Y) (sheetOf Z) (sound network X Y Z r) (r .third) (cuts network X Y Z r) x y apart in (
-      a .0,
-      twice-said network X Y x y o₁ o₂ (r .bytes .0) (r .bytes .1) roomy₁ roomy₂ (n network X Y Z r) (r .first-formed) (r .second-formed)
-          ∙ ap (λ (b : Answer HouseNetwork). andThen b (written (formOf network))) (a .1),
-    )
+apart-refuses network X Y Z r x y apart o₁ o₂ roomy₁ roomy₂ = (
+  twice-said network X Y x y o₁ o₂ (r .bytes .0) (r .bytes .1) roomy₁ roomy₂ (n network X Y Z r) (r .first-formed) (r .second-formed)
+      ∙ ap (λ (b : Answer HouseNetwork). andThen b (written (formOf network)))
+      (apart-place house1 (bounds (formOf network)) (networkOf network) (sheetOf X) (sheetOf Y) (sheetOf Z) (sound network X Y Z r) (r .third) (cuts network X Y Z r) x y apart),
+  twice-said network Y X y x o₁ o₂ (r .bytes .0) (r .bytes .2) roomy₁ roomy₂ (n network X Y Z r) (r .second-formed) (r .first-formed)
+      ∙ ap (λ (b : Answer HouseNetwork). andThen b (written (formOf network)))
+      (apart-place house1 (bounds (formOf network)) (networkOf network) (sheetOf Y) (sheetOf X) (sheetOf Z) (sound network X Y Z r)
+      (swapped (sheetOf X) (sheetOf Y) (sheetOf Z) (r .third)) (cuts network X Y Z r) y x (λ w o p q. apart w o q p)),
+)

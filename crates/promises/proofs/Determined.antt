@@ -1,24 +1,33 @@
--- Determination, proved.
+-- Determination, proved. Most contracts are equations, for the result and for what a lent buffer holds, and two things that are equal to a
+-- third are equal. Where an answer is an enum, the equation is of its numbers and values, and two cases with the same are the same.
+--     determined                                            the entry points
+--     Values, Parts, Tables, Judging, Writers, Fragments, Rooms     the layers below, a law for each public function
+pub mod Values
+pub mod Parts
+pub mod Tables
+pub mod Judging
+pub mod Writers
+pub mod Fragments
+pub mod Rooms
 use mathlib.Core.Path.{sym, _∙_}
-use mathlib.Core.List.{List}
-use Prim.Native.Nat.{ℕ}
-use Rattle.layout.proofs.Cases as cases
-use Rattle.lists.specs.Answer.{Answer}
-use Rattle.layout.specs.declared.Form.{Form}
-use Rattle.judging.proofs.Answers as judge
-use Rattle.judging.specs.Judging.{judgeRecords}
-use Rattle.cutting.proofs.Answers as cut
-use Rattle.cutting.specs.Cutting.{cutRecords}
-use Rattle.promises.specs.Determined.{OneAnswer, OneVerdict, OneCut, OneCheck}
+use Rattle.layout.proofs.Cases.{one-check}
+use Rattle.judging.proofs.Answers.{one-verdict}
+use Rattle.cutting.proofs.Answers.{one-cut}
+use Rattle.promises.specs.Determined.{Determined}
 
-pub one-answer : (A : Type 0) → OneAnswer A
-one-answer A defined first second p q = p ∙ sym q
-
-pub one-verdict : (network list : List ℕ) → OneVerdict network list
-one-verdict network list = judge.one-verdict (judgeRecords network list)
-
-pub one-cut : (network sheet : List ℕ) (k room : ℕ) → OneCut network sheet k room
-one-cut network sheet k room = cut.one-cut (cutRecords network sheet k room)
-
-pub one-check : (answer : Answer Form) → OneCheck answer
-one-check = cases.one-check
+pub determined : Determined
+determined = record {
+  judge = λ κs a r r′ e e′ p q. one-verdict _ r r′ p q;
+  neighbour = λ κs a r r′ e e′ p q. cc;
+  cut = λ κs a r r′ e e′ p q i. (one-cut _ r r′ (p .0) (q .0) i, (p .1 ∙ sym (q .1)) i);
+  judge-bytes = λ κs a r r′ e e′ p q. cc;
+  cut-bytes = λ κs a r r′ e e′ p q. cc;
+  census = λ κs a r r′ e e′ p q. cc;
+  census-bytes = λ κs a r r′ e e′ p q. cc;
+  check-network = λ κs a r r′ e e′ p q. one-check _ r r′ p q;
+  check-list = λ κs a r r′ e e′ p q. one-check _ r r′ p q;
+  check-sheet = λ κs a r r′ e e′ p q. one-check _ r r′ p q;
+  lnianotka-check = λ κs a r r′ e e′ p q. cc;
+  lnianotka-judge = λ κs a r r′ e e′ p q. cc;
+  lnianotka-cut = λ κs a r r′ e e′ p q. cc;
+}

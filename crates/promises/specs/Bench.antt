@@ -1,7 +1,8 @@
 -- The bench examples of document 01 that are marked P: one table, one statement.
 -- Each row has an answer of the definitions, as numbers or as the line that a program prints, and what it must be.
 use mathlib.Core.Path.{_≡_, refl}
-use mathlib.Core.List.{List, [], _∷_, map, filterMap}
+use mathlib.Core.Bool.{cond}
+use mathlib.Core.List.{List, [], _∷_, _++_, map, filterMap}
 use Prim.Native.Nat.{ℕ}
 use Rattle.lists.specs.Best.{best}
 use Rattle.lists.specs.First.{firstBad, every}
@@ -19,7 +20,7 @@ use Rattle.routes.specs.declared.Route.{Route}
 use Rattle.routes.specs.declared.Route.the-variants.{None, Held}
 use Rattle.lists.specs.Answer.{Answer, given, refused}
 use Rattle.networks.specs.Cut.{leaves, feeds, fragmentOf, cut}
-use Rattle.networks.specs.Judge.{Verdict, pass, found, fault, verdictFrom, judge}
+use Rattle.networks.specs.Judge.{fault, verdictFrom, judge}
 use Rattle.networks.specs.Sheets.{number, note, listed}
 use Rattle.networks.specs.Solution.{due, mapping}
 use Rattle.records.specs.Edge.{edgeTo, edgeFrom, edgeKey, boxed, owned, endsFormed, edgeFormed, edgeOk, leftBy, inputOk}
@@ -31,8 +32,12 @@ use Rattle.records.specs.Network.{manyParts, networkRefusal}
 use Rattle.nodes.specs.Node.{kindFormed, promiseFormed, demandFormed, nodeFormed, nodeId, nodeOk, isOwn, ownless, rowOf}
 use Rattle.reading.specs.Parts.{demandAt, demandBytes, promiseAt, promiseBytes, boxAt, boxBytes, wireAt, wireBytes, sheetEntryAt, sheetEntryBytes, listEntryAt, listEntryBytes}
 use Rattle.reading.specs.Whole.{readNetwork, writeNetwork, readSheet, writeSheet, readList, writeList}
-use Rattle.lines.specs.Line.{text, spaced, line, routeWords, passLine, refusedLine, foundLine}
+use Rattle.reading.specs.Largest.{largestNetwork, largestEntries}
+use Rattle.lines.specs.Bound.{withinBound}
+use Rattle.lines.specs.Line.{text, spaced, line, routeWords, passLine, foundLine}
+use Rattle.lines.specs.Split.{firstLength}
 use Rattle.judging.specs.Judging.{judgeRecords}
+use Rattle.judging.specs.Text.{verdictLine, judgeBound, judgeText}
 use Rattle.cutting.specs.Cutting.{cutNetwork, cutRecords}
 use Rattle.promises.specs.BenchNetworks.{held, adds, masks, chainRecord, twoAnswers, listing, splitting}
 
@@ -48,19 +53,13 @@ abbrev shown : Route → List ℕ
 shown None = []
 shown (Held f) = f .preference ∷ f .cost ∷ f .origin ∷ f .tags ∷ []
 
+-- whether the first of two routes beats the second, and the second the first: 1 where it does
+abbrev beating : Route → Route → List ℕ
+beating x y = cond (beats x y) 1 0 ∷ cond (beats y x) 1 0 ∷ []
+
 -- a route over a wire that may give costs up to 65,535
 abbrev over : Policy → Route → List ℕ
 over p r = shown (carried highest p r)
-
--- the line that the judge prints
-abbrev lineOf : Answer (Verdict Route) → List ℕ
-lineOf (given (pass count)) = passLine count
-lineOf (given (found number node route count)) = foundLine number node count route
-lineOf (refused number place) = refusedLine number place
-
--- the judge's line on two records
-abbrev judging : List ℕ → List ℕ → List ℕ
-judging network list = lineOf (judgeRecords network list)
 
 -- what a cut answers: a length, or a number and a place
 abbrev sizeOf : Answer ℕ → List ℕ
@@ -73,8 +72,12 @@ cutting room = sizeOf (cutRecords (chainRecord (held 100 0 1 0) 2) (splitting (h
 
 abbrev pub bench : List Example
 bench =
-    -- better
+    -- better: which of two beats the other, and the best of them, whichever stands first
+    is (beating (held 200 9 1 0) (held 100 5 1 0)) (1 ∷ 0 ∷ []) ∷
     is (shown (best beats (held 200 9 1 0) (held 100 5 1 0))) (200 ∷ 9 ∷ 1 ∷ 0 ∷ []) ∷
+    is (shown (best beats (held 100 5 1 0) (held 200 9 1 0))) (200 ∷ 9 ∷ 1 ∷ 0 ∷ []) ∷
+    is (beating (held 100 5 1 0) (held 100 5 2 0)) (1 ∷ 0 ∷ []) ∷
+    is (shown (best beats (held 100 5 1 0) (held 100 5 2 0))) (100 ∷ 5 ∷ 1 ∷ 0 ∷ []) ∷
     is (shown (best beats (held 100 5 2 0) (held 100 5 1 0))) (100 ∷ 5 ∷ 1 ∷ 0 ∷ []) ∷
     -- cost
     is (over (adds 1) (held 100 65534 1 0)) (100 ∷ 65535 ∷ 1 ∷ 0 ∷ []) ∷
@@ -84,21 +87,31 @@ bench =
     is (over (masks 0 0 3 1) (held 100 5 1 7)) (100 ∷ 5 ∷ 1 ∷ 5 ∷ []) ∷
     is (over (masks 6 0 0 0) (held 100 5 1 5)) [] ∷
     is (over (masks 0 6 0 0) (held 100 5 1 4)) [] ∷
-    -- the chain with costs 0, 1, 2, and with ceiling 1; no route anywhere; without box 1's start
-    is (judging (chainRecord (held 100 0 1 0) 2) (listing (held 100 0 1 0) (held 100 1 1 0) (held 100 2 1 0))) (text "pass 3\n") ∷
-    is (judging (chainRecord (held 100 0 1 0) 1) (listing (held 100 0 1 0) (held 100 1 1 0) (held 100 2 1 0))) (text "found 33 3 3 100 2 1 0\n") ∷
-    is (judging (chainRecord (held 100 0 1 0) 2) (listing None None None)) (text "found 31 1 1 100 0 1 0\n") ∷
-    is (judging (chainRecord None 2) (listing None None None)) (text "found 33 3 3 none\n") ∷
+    -- what the judge prints when it reads the chain and a list: costs 0, 1, 2, and with ceiling 1; no route anywhere; without box 1's start
+    is (judgeText (chainRecord (held 100 0 1 0) 2 ++ listing (held 100 0 1 0) (held 100 1 1 0) (held 100 2 1 0))) (text "pass 3\n") ∷
+    is (judgeText (chainRecord (held 100 0 1 0) 1 ++ listing (held 100 0 1 0) (held 100 1 1 0) (held 100 2 1 0))) (text "found 33 3 3 100 2 1 0\n") ∷
+    is (judgeText (chainRecord (held 100 0 1 0) 2 ++ listing None None None)) (text "found 31 1 1 100 0 1 0\n") ∷
+    is (judgeText (chainRecord None 2 ++ listing None None None)) (text "found 33 3 3 none\n") ∷
     -- its cut 1, 2 | 3 into a buffer of 81 and of 82
     is (cutting 81) (20 ∷ 82 ∷ []) ∷
     is (cutting 82) (82 ∷ []) ∷
     -- two answers: one, its mirror, and both boxes at the lesser route
-    is (judging twoAnswers (listing (held 100 0 1 0) (held 100 1 1 0) (held 200 2 1 1))) (text "pass 3\n") ∷
-    is (judging twoAnswers (listing (held 100 0 1 0) (held 200 2 1 1) (held 100 1 1 0))) (text "pass 3\n") ∷
-    is (judging twoAnswers (listing (held 100 0 1 0) (held 100 1 1 0) (held 100 1 1 0))) (text "found 31 2 2 200 2 1 1\n") ∷
+    is (judgeText (twoAnswers ++ listing (held 100 0 1 0) (held 100 1 1 0) (held 200 2 1 1))) (text "pass 3\n") ∷
+    is (judgeText (twoAnswers ++ listing (held 100 0 1 0) (held 200 2 1 1) (held 100 1 1 0))) (text "pass 3\n") ∷
+    is (judgeText (twoAnswers ++ listing (held 100 0 1 0) (held 100 1 1 0) (held 100 1 1 0))) (text "found 31 2 2 200 2 1 1\n") ∷
     []
 
 -- every answer is the expected one
 pub bench-holds : map (λ (x : Example). x .answer) bench ≡ map (λ (x : Example). x .expected) bench
-unfolding beats carried lacks barred dear newTags crossed same meets zeros fieldsAt fieldsBytes routeAt routeBytes routeFormed policyAt policyBytes policyFormed firstBad every least place at u16At u32At u16Bytes u32Bytes decimal places leaves feeds fragmentOf cut fault verdictFrom judge number note listed due mapping edgeTo edgeFrom edgeKey boxed owned endsFormed edgeFormed edgeOk leftBy inputOk entryOffset entryId fragmentFormed entryFormed entryOk entriesRefusal nodeWidth entryWidth policyOffset nodeOffset edgeOffset policyOk manyParts networkRefusal formOf versioned kindFormed promiseFormed demandFormed nodeFormed nodeId nodeOk isOwn ownless rowOf demandAt demandBytes promiseAt promiseBytes boxAt boxBytes wireAt wireBytes sheetEntryAt sheetEntryBytes listEntryAt listEntryBytes readNetwork writeNetwork readSheet writeSheet readList writeList line spaced routeWords passLine foundLine judgeRecords cutNetwork cutRecords filterMap
+unfolding firstBad every least place at filterMap
+    u16At u32At u16Bytes u32Bytes zeros decimal places
+    beats same carried lacks barred dear newTags crossed meets fieldsAt fieldsBytes routeAt routeBytes routeFormed policyAt policyBytes policyFormed
+    number note listed due mapping fault verdictFrom judge leaves feeds fragmentOf cut
+    formOf versioned nodeWidth entryWidth entryOffset policyOffset nodeOffset edgeOffset
+    entryId fragmentFormed entryFormed entryOk entriesRefusal
+    policyOk kindFormed promiseFormed demandFormed nodeFormed nodeId nodeOk isOwn ownless rowOf
+    edgeTo edgeFrom edgeKey boxed owned endsFormed edgeFormed edgeOk leftBy inputOk manyParts networkRefusal
+    demandAt demandBytes promiseAt promiseBytes boxAt boxBytes wireAt wireBytes sheetEntryAt sheetEntryBytes listEntryAt listEntryBytes
+    readNetwork writeNetwork readSheet writeSheet readList writeList largestNetwork largestEntries
+    line spaced routeWords passLine foundLine withinBound firstLength judgeRecords verdictLine judgeBound judgeText cutNetwork cutRecords
 bench-holds = refl

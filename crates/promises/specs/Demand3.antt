@@ -1,18 +1,19 @@
 -- Demand 3: cutting keeps its own algebra. All of it is about bytes, and buffers hold what they hold, with room for the largest record.
 use mathlib.Core.Path.{_≡_}
-use mathlib.Core.Bool.{true}
+use mathlib.Core.Bool.{true, cond}
 use mathlib.Core.List.{List}
 use mathlib.Core.Logic.{_↔_}
 use Prim.Native.Nat.{ℕ, _<_}
+use Rattle.lists.specs.All.{any}
 use Rattle.lists.specs.Bytes.{Bytes}
 use Rattle.lists.specs.Answer.{Answer, given, refused, andThen}
 use Rattle.networks.specs.Lowest.{Entered}
-use Rattle.networks.specs.Cut.{Agrees, Third}
-use Rattle.networks.specs.Network.{owns}
+use Rattle.networks.specs.Cut.{numbered, Agrees, Third}
+use Rattle.networks.specs.Network.{ownBoxes, owns}
 use Rattle.networks.specs.Sheets.{number, listed}
 use Rattle.layout.specs.Form.{formOf, listLead, sheetLead}
 use Rattle.entries.specs.Entries.{WellFormed}
-use Rattle.reading.specs.Whole.{networkOf, sheetOf, listOf}
+use Rattle.reading.specs.Whole.{HouseNetwork, HouseSheet, networkOf, sheetOf, listOf}
 use Rattle.promises.specs.Calls.{Passes, cutInto, Roomy, SheetCuts}
 
 -- For a sound network, a well-formed list with an entry for every own box, and a sheet that cuts the network (so that neither of those two
@@ -45,8 +46,16 @@ CommonRefinement network X Y Z = Refined network X Y Z → (w : ℕ) → owns (n
     × (cutTwice network Y (number (sheetOf Y) w) o₁ X (number (sheetOf X) w) o₂ ≡ cutInto network Z (number (sheetOf Z) w) o₃)
     × ((F : List ℕ) × (cutInto network Z (number (sheetOf Z) w) o₃ ≡ given F))
 
--- Where no own box is in both fragments, the answer is 18; of its place nothing is said, as it differs with the order.
+-- the place of refusal 18 where no own box is in both fragments: the number of the first cut where no own box has it, so that this one is
+-- refused, and otherwise the number of the second
+abbrev pub apartPlace : HouseNetwork → HouseSheet → ℕ → ℕ → ℕ
+apartPlace N S first second = cond (any (numbered N S first) (ownBoxes N)) second first
+
+-- Where no own box is in both fragments, cutting by the first and then by the second is refused with 18, and so is cutting by the second and
+-- then by the first.
 abbrev pub ApartRefused : List ℕ → List ℕ → List ℕ → List ℕ → Type 0
 ApartRefused network X Y Z = Refined network X Y Z → (x y : ℕ)
     → ((w : ℕ) → owns (networkOf network) w ≡ true → number (sheetOf X) w ≡ x → number (sheetOf Y) w ≡ y → ⊥)
-    → (o₁ o₂ : List ℕ) → Roomy (formOf network) o₁ → Roomy (formOf network) o₂ → (place : ℕ) × (cutTwice network X x o₁ Y y o₂ ≡ refused 18 place)
+    → (o₁ o₂ : List ℕ) → Roomy (formOf network) o₁ → Roomy (formOf network) o₂
+    → (cutTwice network X x o₁ Y y o₂ ≡ refused 18 (apartPlace (networkOf network) (sheetOf X) x y))
+    × (cutTwice network Y y o₁ X x o₂ ≡ refused 18 (apartPlace (networkOf network) (sheetOf Y) y x))

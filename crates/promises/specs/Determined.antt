@@ -1,31 +1,43 @@
--- Determination: any two results that a contract allows are equal.
+-- Determination: any two results that a contract allows for the same arguments are equal, and so is what they leave in a lent buffer.
+-- A contract is taken as Rattle makes it of the function's `ensures`: `Post` of its `Reads` says of the arguments a, a result r and the
+-- arguments at exit e whether the contract allows r and e. Of a reference `now` is what stands behind it.
 use mathlib.Core.Path.{_≡_}
 use mathlib.Core.List.{List}
 use Prim.Native.Nat.{ℕ}
-use Rattle.lists.specs.Answer.{Answer}
-use Rattle.layout.specs.declared.Form.{Form}
-use Rattle.layout.specs.Refusals.{checkAnswer}
-use Rattle.layout.specs.declared.Check.{Check}
-use Rattle.judging.specs.Answers as judge
-use Rattle.judging.specs.Judging.{judgeRecords}
-use Rattle.judging.specs.declared.Verdict.{Verdict}
-use Rattle.cutting.specs.Answers as cut
-use Rattle.cutting.specs.Cutting.{cutRecords}
+use contract.Lifetimes.{Lfts}
+use denote.Ref.{now}
 use Rattle.cutting.specs.declared.CutAnswer.{CutAnswer}
+use Rattle.judging.proofs.judge.Reads as the-judge
+use Rattle.judging.proofs.judge_bytes.Reads as the-judge-bytes
+use Rattle.judging.proofs.neighbour.Reads as the-neighbour
+use Rattle.cutting.proofs.cut.Reads as the-cut
+use Rattle.cutting.proofs.cut_bytes.Reads as the-cut-bytes
+use Rattle.counting.proofs.census.Reads as the-census
+use Rattle.counting.proofs.census_bytes.Reads as the-census-bytes
+use Rattle.records.proofs.check_network.Reads as the-check-network
+use Rattle.entries.proofs.check_list.Reads as the-check-list
+use Rattle.entries.proofs.check_sheet.Reads as the-check-sheet
+use Rattle.library.proofs.lnianotka_check.Reads as the-lnianotka-check
+use Rattle.library.proofs.lnianotka_judge.Reads as the-lnianotka-judge
+use Rattle.library.proofs.lnianotka_cut.Reads as the-lnianotka-cut
 
--- A contract that is an equation with a definition leaves one result. So do the contracts on what a lent buffer holds at exit.
-abbrev pub OneAnswer : Type 0 → Type 0
-OneAnswer A = (defined first second : A) → first ≡ defined → second ≡ defined → first ≡ second
+-- `seen` is what a caller has of a result and of the arguments at exit.
+abbrev pub One : {A R E B : Type 0} → (A → R → E → Type 0) → (R → E → B) → Type 0
+One {A} {R} {E} Post seen = (a : A) (r r′ : R) (e e′ : E) → Post a r e → Post a r′ e′ → seen r e ≡ seen r′ e′
 
--- An answer that is an enum has document 01's numbers and values: two cases with the same are the same, of the judge, the cutter and the
--- checks.
-abbrev pub OneVerdict : List ℕ → List ℕ → Type 0
-OneVerdict network list = (first second : Verdict)
-    → judge.answerOf first ≡ judgeRecords network list → judge.answerOf second ≡ judgeRecords network list → first ≡ second
-
-abbrev pub OneCut : List ℕ → List ℕ → ℕ → ℕ → Type 0
-OneCut network sheet k room = (first second : CutAnswer)
-    → cut.answerOf first ≡ cutRecords network sheet k room → cut.answerOf second ≡ cutRecords network sheet k room → first ≡ second
-
-abbrev pub OneCheck : Answer Form → Type 0
-OneCheck refusal = (first second : Check) → checkAnswer first ≡ refusal → checkAnswer second ≡ refusal → first ≡ second
+-- Each entry point: its result, with what stands at exit in the buffer or the place that was lent to it. Those of the layers below are in
+-- proofs/Determined, one law each.
+pub record Determined : Type 0 where
+  pub judge : (κs : Lfts 1) → One (the-judge.Post κs) (λ r e. r)
+  pub neighbour : (κs : Lfts 1) → One (the-neighbour.Post κs) (λ r e. now r)
+  pub cut : (κs : Lfts 3) → One {B = CutAnswer × List ℕ} (the-cut.Post κs) (λ r e. (r, now (e .1 .1 .1 .0)))
+  pub judge-bytes : (κs : Lfts 2) → One {B = ℕ × List ℕ} (the-judge-bytes.Post κs) (λ r e. (r, now (e .1 .0)))
+  pub cut-bytes : (κs : Lfts 2) → One {B = ℕ × List ℕ} (the-cut-bytes.Post κs) (λ r e. (r, now (e .1 .0)))
+  pub census : (κs : Lfts 2) → One {B = ℕ × List ℕ} (the-census.Post κs) (λ r e. (r, now (e .1 .1 .0)))
+  pub census-bytes : (κs : Lfts 2) → One {B = ℕ × List ℕ} (the-census-bytes.Post κs) (λ r e. (r, now (e .1 .0)))
+  pub check-network : (κs : Lfts 1) → One (the-check-network.Post κs) (λ r e. r)
+  pub check-list : (κs : Lfts 1) → One (the-check-list.Post κs) (λ r e. r)
+  pub check-sheet : (κs : Lfts 1) → One (the-check-sheet.Post κs) (λ r e. r)
+  pub lnianotka-check : (κs : Lfts 2) → One {B = ℕ × ℕ} (the-lnianotka-check.Post κs) (λ r e. (r, now (e .1 .0)))
+  pub lnianotka-judge : (κs : Lfts 2) → One {B = ℕ × List ℕ} (the-lnianotka-judge.Post κs) (λ r e. (r, now (e .1 .0)))
+  pub lnianotka-cut : (κs : Lfts 2) → One {B = ℕ × List ℕ} (the-lnianotka-cut.Post κs) (λ r e. (r, now (e .1 .0)))

@@ -2,10 +2,13 @@
 pub mod Calls
 pub mod Demand1
 pub mod Demand2
+pub mod JudgedCount
 pub mod Demand3
 pub mod Fragments
 pub mod Silence
 pub mod SameAnswer
+pub mod Suite
+pub mod Answers
 pub mod Determined
 pub mod Programs
 pub mod BenchNetworks
