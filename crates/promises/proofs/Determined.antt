@@ -29,5 +29,6 @@ determined = record {
   check-sheet = λ κs a r r′ e e′ p q. one-check _ r r′ p q;
   lnianotka-check = λ κs a r r′ e e′ p q. cc;
   lnianotka-judge = λ κs a r r′ e e′ p q. cc;
+  lnianotka-census = λ κs a r r′ e e′ p q. cc;
   lnianotka-cut = λ κs a r r′ e e′ p q. cc;
 }

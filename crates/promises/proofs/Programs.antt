@@ -2,7 +2,7 @@
 -- byte is its first word's; a fragment's record is shorter than 2^16 bytes, so that its length's high byte is 0.
 use mathlib.Core.Path.{_≡_, refl, sym, ap, _∙_}
 use mathlib.Core.Bool.{Bool, true, false, cond}
-use mathlib.Core.List.{List, [], _∷_, _++_}
+use mathlib.Core.List.{List, [], _∷_, _++_, append-nil}
 use mathlib.Core.Logic.{⊎-elim}
 use Prim.Native.Nat.{ℕ, _+_, _≤_, _<_, _/_}
 use native.Mathlib.Nat.{div-eq-of-lt}
@@ -26,11 +26,14 @@ use Rattle.lines.specs.Split.{firstRecord, restOf}
 use Rattle.judging.specs.Judging.{judgeRecords}
 use Rattle.judging.specs.Text.{verdictLine, judgeBound, judgeText}
 use Rattle.judging.proofs.Starts.{judge-start}
+use Rattle.counting.specs.Lines.{censusLines}
+use Rattle.counting.specs.Text.{censusOf, behindPass, censusRecords, censusText}
+use Rattle.counting.proofs.Lengths.{census-start}
 use Rattle.cutting.specs.Cutting.{cutNetwork}
 use Rattle.cutting.specs.Text.{cutOutput, askedOf, behindAsked, cutBound, cutText}
 use Rattle.cutting.proofs.Starts.{cut-start}
 use Rattle.cutting.proofs.TextLaws.{text-fits}
-use Rattle.promises.specs.Programs.{JudgeReads, CutReads, judgeAnswer, cutAnswer, JudgePrints, CutWrites, judgeMark, JudgeShows, cutMark, CutShows}
+use Rattle.promises.specs.Programs.{JudgeReads, CutReads, CensusReads, CensusPrints, judgeAnswer, cutAnswer, JudgePrints, CutWrites, judgeMark, JudgeShows, cutMark, CutShows}
 
 -- the first bytes of an input, one more than a bound
 start-told : (bound : ℕ) (text : List ℕ → List ℕ) → ((read more : List ℕ) → bound < length read → text (read ++ more) ≡ text read)
@@ -46,6 +49,24 @@ judge-reads = start-told judgeBound judgeText judge-start
 
 pub cut-reads : (input : List ℕ) → CutReads input
 cut-reads = start-told cutBound cutText cut-start
+
+pub census-reads : (input : List ℕ) → CensusReads input
+census-reads = start-told judgeBound censusText census-start
+
+pub census-prints : (input : List ℕ) → CensusPrints input
+unfolding censusText judgeText withinBound censusRecords
+census-prints input = go (ltb judgeBound (length input))
+  where
+    a : Answer (Verdict Route)
+    a = judgeRecords (firstRecord input) (restOf input)
+
+    lines : List ℕ
+    lines = censusLines (censusOf (firstRecord input) (restOf input))
+
+    go : (t : Bool) → cond t (refusedLine 5 judgeBound) (verdictLine a ++ behindPass a lines)
+        ≡ cond t (refusedLine 5 judgeBound) (verdictLine a) ++ behindPass (firstOf ((t, refused 5 judgeBound) ∷ []) a) lines
+    go true = sym (append-nil (refusedLine 5 judgeBound))
+    go false = refl
 
 verdict-first : (a : Answer (Verdict Route)) → take 1 (verdictLine a) ≡ judgeMark a
 unfolding verdictLine passLine refusedLine foundLine line

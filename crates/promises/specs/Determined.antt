@@ -19,6 +19,7 @@ use Rattle.entries.proofs.check_list.Reads as the-check-list
 use Rattle.entries.proofs.check_sheet.Reads as the-check-sheet
 use Rattle.library.proofs.lnianotka_check.Reads as the-lnianotka-check
 use Rattle.library.proofs.lnianotka_judge.Reads as the-lnianotka-judge
+use Rattle.library.proofs.lnianotka_census.Reads as the-lnianotka-census
 use Rattle.library.proofs.lnianotka_cut.Reads as the-lnianotka-cut
 
 -- `seen` is what a caller has of a result and of the arguments at exit.
@@ -40,4 +41,5 @@ pub record Determined : Type 0 where
   pub check-sheet : (κs : Lfts 1) → One (the-check-sheet.Post κs) (λ r e. r)
   pub lnianotka-check : (κs : Lfts 2) → One {B = ℕ × ℕ} (the-lnianotka-check.Post κs) (λ r e. (r, now (e .1 .0)))
   pub lnianotka-judge : (κs : Lfts 2) → One {B = ℕ × List ℕ} (the-lnianotka-judge.Post κs) (λ r e. (r, now (e .1 .0)))
+  pub lnianotka-census : (κs : Lfts 2) → One {B = ℕ × List ℕ} (the-lnianotka-census.Post κs) (λ r e. (r, now (e .1 .0)))
   pub lnianotka-cut : (κs : Lfts 2) → One {B = ℕ × List ℕ} (the-lnianotka-cut.Post κs) (λ r e. (r, now (e .1 .0)))

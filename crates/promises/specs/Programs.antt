@@ -1,11 +1,11 @@
--- What the two programs promise beside the lines that document 01 gives them: how much of an input counts, and how a script tells one
+-- What the programs promise beside the lines that document 01 gives them: how much of an input counts, and how a script tells one
 -- answer from another.
---     JudgeReads, CutReads      no byte counts that is further back than one behind the longest input
+--     JudgeReads, CutReads, CensusReads     no byte counts that is further back than one behind the longest input
 --     judgeAnswer, cutAnswer    what is answered to an input
---     JudgePrints, CutWrites    the output is that answer's
+--     JudgePrints, CutWrites, CensusPrints  the output is that answer's, and behind a pass the census
 --     JudgeShows, CutShows      the first byte of the output says which kind of answer it is
 use mathlib.Core.Path.{_≡_}
-use mathlib.Core.List.{List, [], _∷_}
+use mathlib.Core.List.{List, [], _∷_, _++_}
 use Prim.Native.Nat.{ℕ, _+_}
 use lib.Dec.{ltb}
 use lib.ListN.{length, take}
@@ -19,6 +19,8 @@ use Rattle.lines.specs.Line.{text}
 use Rattle.lines.specs.Split.{firstRecord, restOf}
 use Rattle.judging.specs.Judging.{judgeRecords}
 use Rattle.judging.specs.Text.{verdictLine, judgeBound, judgeText}
+use Rattle.counting.specs.Lines.{censusLines}
+use Rattle.counting.specs.Text.{censusOf, behindPass, censusText}
 use Rattle.cutting.specs.Cutting.{cutNetwork}
 use Rattle.cutting.specs.Text.{cutOutput, askedOf, behindAsked, cutBound, cutText}
 
@@ -28,6 +30,10 @@ JudgeReads input = judgeText (take (judgeBound + 1) input) ≡ judgeText input
 
 abbrev pub CutReads : List ℕ → Type 0
 CutReads input = cutText (take (cutBound + 1) input) ≡ cutText input
+
+-- The census reads what the judge reads.
+abbrev pub CensusReads : List ℕ → Type 0
+CensusReads input = censusText (take (judgeBound + 1) input) ≡ censusText input
 
 -- An input over the bound is refused with 5, the bound as its place; any other is split and judged, or cut.
 abbrev pub judgeAnswer : List ℕ → Answer (Verdict Route)
@@ -42,6 +48,10 @@ JudgePrints input = judgeText input ≡ verdictLine (judgeAnswer input)
 
 abbrev pub CutWrites : List ℕ → Type 0
 CutWrites input = cutText input ≡ cutOutput (formOf (firstRecord input)) (cutAnswer input)
+
+-- The census begins with the judge's line, and has the counts and the silent boxes behind it on a pass, and otherwise nothing.
+abbrev pub CensusPrints : List ℕ → Type 0
+CensusPrints input = censusText input ≡ judgeText input ++ behindPass (judgeAnswer input) (censusLines (censusOf (firstRecord input) (restOf input)))
 
 -- The judge's line begins with a `p` on a pass, with an `f` on a finding, with an `r` on a refusal.
 abbrev pub judgeMark : Answer (Verdict Route) → List ℕ
