@@ -6,17 +6,16 @@ use mathlib.Core.Path.{_≡_, sym, ap, ap₂, _∙_}
 use mathlib.Core.Bool.{true}
 use mathlib.Core.List.{List}
 use mathlib.Core.Logic.{⊎-elim}
-use mathlib.Core.Option.{some}
-use Prim.Native.Nat.{ℕ, zero, suc, _+_, _^_, _≤_, _<_, zero-le}
+use Prim.Native.Nat.{ℕ, _+_, _^_, _≤_, _<_, zero-le}
 use native.Mathlib.Omega.{arith}
-use lib.ListN.{length, getD, getElem?}
+use lib.ListN.{length, getD}
 use mir.Syntax.{w64}
 use mir.Val.{Fits}
 use borrow.Author.Tests.{lt-ltb, le-ltb}
 use Rattle.lists.specs.Best.{best}
 use Rattle.lists.specs.Rows.{rows}
 use Rattle.lists.specs.Stride.{at}
-use Rattle.lists.proofs.Stride.{at-zero, at-shift}
+use Rattle.lists.proofs.Rows.{getElem-rows}
 use Rattle.lists.proofs.Test.{le-or-lt}
 use Rattle.numbers.specs.BigEndian.{u16At}
 use Rattle.routes.specs.Carry.{carried, highest}
@@ -98,18 +97,11 @@ module _ (f : Form) (network : List ℕ) (o : ℕ) (e : o ≡ edgeOffset f netwo
 
 pub ruleset wire-firsts = (first-usable, first-long, first-end, first-is)
 
--- a row of a table by its place
-rows-element : {A : Type 0} (value : ℕ → A) (width offset n i : ℕ) → i < n → getElem? (rows value width offset n) i ≡ some (value (at offset width i))
-rows-element value width offset zero i l = absurd (omega arith)
-rows-element value width offset (suc n) zero l = ap (λ (o : ℕ). some (value o)) (sym (at-zero offset width))
-rows-element value width offset (suc n) (suc i) l =
-    rows-element value width (offset + width) n i (omega arith) ∙ ap (λ (o : ℕ). some (value o)) (sym (at-shift offset width i))
-
 -- what the wire at an offset makes of a route
 trans-at : (f : Form) (network : List ℕ) (o : ℕ) (r : Route) → getD network (o + 4) 0 < policyCount network
     → trans (house highest) (readNetwork f network) (wireAt network o) r ≡ carried highest (policyAt network (policyOffset (getD network (o + 4) 0))) r
 unfolding readNetwork wireAt policyOffset
-trans-at f network o r l = rw (rows-element (policyAt network) 13 10 (policyCount network) (getD network (o + 4) 0) l)
+trans-at f network o r l = rw (getElem-rows (policyAt network) 13 10 (policyCount network) (getD network (o + 4) 0) l)
 
 -- what a wire gives
 module _ (f : Form) (network list rows stands : List ℕ) (h : Prepared f network list rows stands) (o : ℕ) (w : WireAt f network o) where

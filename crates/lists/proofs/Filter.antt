@@ -1,14 +1,17 @@
 -- The elements that meet a test, and the images that a partial function gives, in order.
 --     filter        its laws, and what any and All say of it
+--     length-..     how many elements meet a test, or are images
 --     map           what any and All say of it
 --     filterMap     its laws, and what any and All say of it (twice over: filterMap-filterMap of mathlib.Core.List)
 use mathlib.Core.Path.{_≡_, refl, sym, ap, ap₂, _∙_, subst}
-use mathlib.Core.Bool.{Bool, true, false, cond, _&&_, _||_, false≢true}
+use mathlib.Core.Bool.{Bool, true, false, cond, not, _&&_, _||_, and-comm, false≢true}
 use mathlib.Core.Option.{Option, none, some, Option·elim, Option·none-ne-some, Option·some-injective}
 use mathlib.Core.List.{List, [], _∷_, filterMap, filterMap-some, map}
-use Prim.Native.Nat.{suc, _≤_, _<_}
+use mathlib.Core.Logic.{_↔_}
+use Prim.Native.Nat.{suc, _+_, _≤_, _<_}
 use native.Mathlib.Omega.{arith}
 use lib.ListN.{length}
+use Rattle.lists.proofs.All.{all-of, false-any}
 use Rattle.lists.proofs.Test.{or-f-l, or-f-r}
 use Rattle.lists.specs.All.{All, any}
 use Rattle.lists.specs.Filter.{filter, holds}
@@ -151,6 +154,59 @@ module _ {A B : Type 0} where
           → ((y : B) → f x ≡ some y → P y) × All (λ (z : A). (y : B) → f z ≡ some y → P y) xs
       go none q k r = (λ y e. absurd (Option·none-ne-some _ (sym q ∙ e)), r k)
       go (some z) q k r = (λ y e. subst P (Option·some-injective _ _ (sym q ∙ e)) (k .0), r (k .1))
+
+module _ {A : Type 0} where
+  pub filter-swap : (p q : A → Bool) (xs : List A) → filter q (filter p xs) ≡ filter p (filter q xs)
+  filter-swap p q xs = filter-filter p q xs
+      ∙ filter-congr (λ (x : A). p x && q x) (λ (x : A). q x && p x) xs (all-of xs (λ x. and-comm (p x) (q x)))
+      ∙ sym (filter-filter q p xs)
+
+  -- no element meets the test
+  none-counted : (p : A → Bool) (xs : List A) → length (filter p xs) ≡ 0 → All (λ (x : A). p x ≡ false) xs
+  none-counted p [] e = tt
+  none-counted p (x ∷ xs) e = go (p x) refl e (none-counted p xs)
+    where
+      go : (t : Bool) → p x ≡ t → length (cond t (x ∷ filter p xs) (filter p xs)) ≡ 0
+          → (length (filter p xs) ≡ 0 → All (λ (y : A). p y ≡ false) xs) → (p x ≡ false) × All (λ (y : A). p y ≡ false) xs
+      go true q z r = absurd (omega arith)
+      go false q z r = (q, r z)
+
+  pub length-none : (p : A → Bool) (xs : List A) → (length (filter p xs) ≡ 0) ↔ All (λ (x : A). p x ≡ false) xs
+  length-none p xs = (none-counted p xs, λ h. ap length (filter-none p xs (false-any p xs h)))
+
+  -- every element that meets the first test meets the second
+  pub length-within : (p q : A → Bool) (xs : List A) → All (λ (x : A). p x ≡ true → q x ≡ true) xs → length (filter p xs) ≤ length (filter q xs)
+  length-within p q [] h = omega arith
+  length-within p q (x ∷ xs) h = go (p x) (q x) (h .0) (length-within p q xs (h .1))
+    where
+      go : (s t : Bool) → (s ≡ true → t ≡ true) → length (filter p xs) ≤ length (filter q xs)
+          → length (cond s (x ∷ filter p xs) (filter p xs)) ≤ length (cond t (x ∷ filter q xs) (filter q xs))
+      go true true f l = omega arith
+      go true false f l = absurd (false≢true (f refl))
+      go false true f l = omega arith
+      go false false f l = l
+
+  -- each element meets the test or does not
+  pub length-split : (p : A → Bool) (xs : List A) → length (filter p xs) + length (filter (λ (x : A). not (p x)) xs) ≡ length xs
+  length-split p [] = refl
+  length-split p (x ∷ xs) = go (p x) (length-split p xs)
+    where
+      go : (t : Bool) → length (filter p xs) + length (filter (λ (y : A). not (p y)) xs) ≡ length xs
+          → length (cond t (x ∷ filter p xs) (filter p xs))
+          + length (cond (not t) (x ∷ filter (λ (y : A). not (p y)) xs) (filter (λ (y : A). not (p y)) xs)) ≡ suc (length xs)
+      go true e = omega arith
+      go false e = omega arith
+
+-- the images that meet a test
+pub filter-mapped : {A B : Type 0} (f : A → B) (p : B → Bool) (xs : List A) → filter p (map f xs) ≡ map f (filter (λ (x : A). p (f x)) xs)
+filter-mapped f p [] = refl
+filter-mapped {A} f p (x ∷ xs) = go (p (f x)) (filter-mapped f p xs)
+  where
+    go : (t : Bool) → filter p (map f xs) ≡ map f (filter (λ (y : A). p (f y)) xs)
+        → cond t (f x ∷ filter p (map f xs)) (filter p (map f xs))
+        ≡ map f (cond t (x ∷ filter (λ (y : A). p (f y)) xs) (filter (λ (y : A). p (f y)) xs))
+    go true e = ap (_∷_ (f x)) e
+    go false e = e
 
 -- how many images there are that meet a test, and how many at all
 module _ {A B : Type 0} where

@@ -19,7 +19,7 @@ use Rattle.lists.specs.All.{All, any}
 use Rattle.lists.proofs.All.{all-map, all-both, all-of}
 use Rattle.lists.specs.Answer.{Answer, given, andThen, isSome, row}
 use Rattle.lists.specs.Filter.{filter}
-use Rattle.lists.proofs.Filter.{filter-congr, filter-filter, filter-all, filter-none, all-filter, all-filterMap, filterMap-all}
+use Rattle.lists.proofs.Filter.{filter-congr, filter-filter, filter-all, filter-none, all-filter, all-filterMap, filterMap-all, filter-swap, filter-mapped, length-none, length-within, length-split}
 use Rattle.lists.specs.Test.{firstOf}
 use Rattle.lists.proofs.Test.{and-absorb}
 use Rattle.networks.specs.Algebra.{Algebra, Choice}
@@ -30,9 +30,9 @@ use Rattle.networks.specs.Solution.{trans, mapping}
 use Rattle.networks.specs.Judge.{pass, held, Passes}
 use Rattle.networks.specs.Cut.{only, promisingOwn, fragment, numbered, Cuts}
 use Rattle.networks.specs.Counts.{sum}
-use Rattle.networks.specs.Silence.{Asking, Census, nobody, counted, AddsUp, isRoute, silent, overlooked, promisesIn, census, told, censusIn}
+use Rattle.networks.specs.Silence.{Asking, Census, nobody, taken, AddsUp, isRoute, silent, overlooked, promisesIn, census, told, censusIn}
 use Rattle.networks.specs.Silence.{Empty, ListsNone, silentList, Quiet}
-use Rattle.networks.proofs.Laws.Counts.{sum-numbers, filter-swap, filter-mapped, count-none, count-within, count-split}
+use Rattle.networks.proofs.Laws.Counts.{sum-numbers}
 use Rattle.networks.proofs.Laws.Boxes.{input-there}
 use Rattle.networks.proofs.Laws.Cutting.{cut-answer, cuts-fits}
 use Rattle.networks.proofs.Laws.Formed.{Formed, sound-formed}
@@ -109,7 +109,7 @@ module _ (𝓐 : Algebra) (asking : Asking 𝓐) (N : NetworkOver 𝓐) (L : Rou
 
   pub holding-none : (census 𝓐 N asking L .holding ≡ 0) ↔ Empty 𝓐 N L
   unfolding census
-  holding-none = let c = count-none (λ (b : Own Route Demand). not (silent 𝓐 L b)) (ownBoxes N) in (
+  holding-none = let c = length-none (λ (b : Own Route Demand). not (silent 𝓐 L b)) (ownBoxes N) in (
     λ e. all-map (ownBoxes N) (λ b t. not-false (silent 𝓐 L b) t) (c .0 e),
     λ h. c .1 (all-map (ownBoxes N) (λ b t. ap not t) h),
   )
@@ -118,8 +118,8 @@ module _ (𝓐 : Algebra) (asking : Asking 𝓐) (N : NetworkOver 𝓐) (L : Rou
   pub quiet-counts : Quiet 𝓐 N asking → (census 𝓐 N asking L .promised ≡ 0) × (census 𝓐 N asking L .asked ≡ 0)
   unfolding census
   quiet-counts q = (
-    (count-none (isRoute 𝓐) (promisesIn 𝓐 N)) .1 (all-map (promisesIn 𝓐 N) (λ r e. rw e (ap not (same-self noRoute))) (q .promises)),
-    (count-none (λ (b : Own Route Demand). asking .asksRoute (b .demand)) (ownBoxes N)) .1 (q .demands),
+    (length-none (isRoute 𝓐) (promisesIn 𝓐 N)) .1 (all-map (promisesIn 𝓐 N) (λ r e. rw e (ap not (same-self noRoute))) (q .promises)),
+    (length-none (λ (b : Own Route Demand). asking .asksRoute (b .demand)) (ownBoxes N)) .1 (q .demands),
   )
 
   -- and back, where no route is assumed either and none starts
@@ -129,9 +129,9 @@ module _ (𝓐 : Algebra) (asking : Asking 𝓐) (N : NetworkOver 𝓐) (L : Rou
   counts-quiet choice starts assumed promised asked = record {
     starts = starts;
     eaten = all-map (inputs N) (λ a t. all-of (N .wires) (λ w e. ap (trans 𝓐 N w) (no-route t) ∙ trans-none 𝓐 choice N w))
-        ((count-none (λ (a : Input Route). isRoute 𝓐 (a .assumed)) (inputs N)) .0 assumed);
-    promises = all-map (promisesIn 𝓐 N) (λ r t. no-route t) ((count-none (isRoute 𝓐) (promisesIn 𝓐 N)) .0 promised);
-    demands = (count-none (λ (b : Own Route Demand). asking .asksRoute (b .demand)) (ownBoxes N)) .0 asked;
+        ((length-none (λ (a : Input Route). isRoute 𝓐 (a .assumed)) (inputs N)) .0 assumed);
+    promises = all-map (promisesIn 𝓐 N) (λ r t. no-route t) ((length-none (isRoute 𝓐) (promisesIn 𝓐 N)) .0 promised);
+    demands = (length-none (λ (b : Own Route Demand). asking .asksRoute (b .demand)) (ownBoxes N)) .0 asked;
   }
     where
       no-route : {r : Route} → isRoute 𝓐 r ≡ false → r ≡ noRoute
@@ -158,7 +158,7 @@ module _ (𝓐 : Algebra) (asking : Asking 𝓐) (N : NetworkOver 𝓐) (L : Rou
 
     pub asked-holding : census 𝓐 N asking L .asked ≤ census 𝓐 N asking L .holding
     unfolding census
-    asked-holding = count-within _ _ (ownBoxes N) (all-map (ownBoxes N) (λ b f t. ap not (f t)) asked-hold)
+    asked-holding = length-within _ _ (ownBoxes N) (all-map (ownBoxes N) (λ b f t. ap not (f t)) asked-hold)
 
     -- a box that has to hold none is silent
     pub told-silent : All (λ (b : Own Route Demand). asking .asksNone (b .demand) ≡ true → silent 𝓐 L b ≡ true) (ownBoxes N)
@@ -171,8 +171,8 @@ module _ (𝓐 : Algebra) (asking : Asking 𝓐) (N : NetworkOver 𝓐) (L : Rou
     accounted =
         let asks : Own Route Demand → Bool = λ b. asking .asksNone (b .demand) in
         let quiet : List (Own Route Demand) = filter (silent 𝓐 L) (ownBoxes N) in
-        let all = count-split (silent 𝓐 L) (ownBoxes N) in
-        let none-held = count-split asks quiet in
+        let all = length-split (silent 𝓐 L) (ownBoxes N) in
+        let none-held = length-split asks quiet in
         let e = ap length (filter-filter (silent 𝓐 L) asks (ownBoxes N)
         ∙ filter-congr _ asks (ownBoxes N) (all-map (ownBoxes N) (λ b f. and-absorb (silent 𝓐 L b) (asks b) f) told-silent)) in
         let f = ap length (filter-filter (silent 𝓐 L) (λ b. not (asks b)) (ownBoxes N)) in
@@ -235,7 +235,7 @@ module _ (𝓐 : Algebra) (asking : Asking 𝓐) (N : NetworkOver 𝓐) (S : She
       given-part count empty k = ap in-part (cut-answer 𝓐 N S ((cuts-fits 𝓐 N S B sound) .0 cuts) k) ∙ go (any (numbered N S k) (ownBoxes N)) refl
         where
           in-part : Answer (NetworkOver 𝓐) → ℕ
-          in-part a = count (counted (andThen a (λ (F : NetworkOver 𝓐). given (census 𝓐 F asking L))))
+          in-part a = count (taken (andThen a (λ (F : NetworkOver 𝓐). given (census 𝓐 F asking L))))
 
           go : (t : Bool) → any (numbered N S k) (ownBoxes N) ≡ t
               → in-part (firstOf (row 18 (cond t none (some k)) ∷ []) (given (fragment N S k))) ≡ count (census 𝓐 (fragment N S k) asking L)

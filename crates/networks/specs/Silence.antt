@@ -51,9 +51,9 @@ pub record Census : Type 0 where
 abbrev pub nobody : Census
 nobody = record { boxes = 0; holding = 0; inputs = 0; assumed = 0; promises = 0; promised = 0; asked = 0; silent = [] }
 
-abbrev pub counted : Answer Census → Census
-counted (given c) = c
-counted (refused number place) = nobody
+abbrev pub taken : Answer Census → Census
+taken (given c) = c
+taken (refused number place) = nobody
 
 -- The counts of own boxes in parts 0 to n - 1 come to the whole's. Inputs and promises are left out: a cut makes some of its own.
 pub record AddsUp (part : ℕ → Census) (n : ℕ) (whole : Census) : Type 0 where
@@ -101,7 +101,7 @@ module _ (𝓐 : Algebra) where
 
     -- the census of fragment k as the cutter gives it
     abbrev pub censusIn : Sheet Route → Asking 𝓐 → RouteList Route → ℕ → Census
-    censusIn S asking L k = counted (andThen (cut 𝓐 N S k) (λ (F : NetworkOver 𝓐). given (census F asking L)))
+    censusIn S asking L k = taken (andThen (cut 𝓐 N S k) (λ (F : NetworkOver 𝓐). given (census F asking L)))
 
     -- A pass is empty where every own box is silent.
     abbrev pub Empty : RouteList Route → Type 0

@@ -4,7 +4,9 @@
 --     twice-said                       one cut upon another's record is one cut upon another's fragment
 --     number-entered, given-asked      fragment numbers end at 63; a fragment that is given was asked for by a byte
 --     cuts-network, cuts-sheet, cuts-said    neither record is refused, and the sheet cuts what the network says
-use mathlib.Core.Path.{_≡_, refl, sym, ap, _∙_}
+--     of-part, parts-low               what is made of a fragment's record is made of the fragment; its number is below 64
+--     said-passes, passes-said         a list passes on bytes where it passes on what they say
+use mathlib.Core.Path.{_≡_, refl, sym, ap, _∙_, subst}
 use mathlib.Core.Bool.{Bool, true, false, false≢true}
 use mathlib.Core.List.{List, [], _∷_}
 use mathlib.Core.Logic.{_⊎_, ⊎-elim}
@@ -16,29 +18,32 @@ use lib.ListN.{length, take}
 use lib.Seq.{take-append-seam}
 use borrow.Author.Tests.{ne-eqb, leb-true}
 use Rattle.lists.specs.All.{All, any}
-use Rattle.lists.proofs.All.{all-of, false-any}
+use Rattle.lists.proofs.All.{all-map, all-of, false-any}
 use Rattle.lists.specs.Bytes.{Bytes}
 use Rattle.lists.proofs.Sorted.{find-all}
 use Rattle.lists.specs.Test.{firstOf}
 use Rattle.lists.proofs.Test.{le-or-lt}
+use Rattle.routes.specs.declared.Demand.{Demand}
 use Rattle.routes.specs.declared.Route.{Route}
 use Rattle.lists.specs.Answer.{Answer, given, refused, andThen, isSome, row}
 use Rattle.networks.specs.Lowest.{unentered}
 use Rattle.networks.specs.Cut.{numbered, cut, cutTwice, Cuts}
-use Rattle.networks.specs.Network.{ownBoxes}
+use Rattle.networks.specs.Judge.{pass, judge, Passes as Passing}
+use Rattle.networks.specs.Network.{Own, ownBoxes}
 use Rattle.networks.specs.Sheets.{SheetEntry, sheetEntry, number, note}
 use Rattle.networks.specs.Sound.{Sound}
 use Rattle.lists.proofs.Answer.{given-same, refused-given, refused-number, first-meets}
-use Rattle.networks.proofs.Laws.Cutting.{cut-given}
+use Rattle.networks.proofs.Laws.Cutting.{cut-given, cuts-fits}
 use Rattle.networks.proofs.Refusals.{cut-refused}
 use Rattle.entries.specs.Entries.{entriesTable, entriesRefusal, sheetRefusal, WellFormed}
-use Rattle.layout.specs.Form.{sheetLead, formOf}
+use Rattle.layout.specs.Form.{listLead, sheetLead, formOf}
 use Rattle.records.specs.Network.{networkTable, networkRefusal, SoundRecord}
-use Rattle.reading.specs.Whole.{HouseNetwork, HouseSheet, bounds, writeNetwork, networkOf, sheetOf, readNetwork}
+use Rattle.reading.specs.Whole.{HouseNetwork, HouseSheet, bounds, writeNetwork, networkOf, sheetOf, listOf, readNetwork}
 use Rattle.reading.proofs.Bridges.{read-network, read-sheet}
+use Rattle.judging.proofs.OnBytes.{judge-said, judged, pass-judged}
 use Rattle.cutting.specs.Cutting.{cutNetwork, cutRecords, cutBuffer}
 use Rattle.cutting.proofs.OnBytes.{cut-said, cut-laid, cut-short, record-largest, record-fine, record-read, record-small, record-form}
-use Rattle.promises.specs.Calls.{house1, cutInto, Roomy, SheetCuts}
+use Rattle.promises.specs.Calls.{house1, Passes, cutInto, Roomy, SheetCuts}
 use Rattle.promises.specs.Demand3 as demand
 use Rattle.layout.specs.declared.Form.{Form}
 use Rattle.records.proofs.Checked.{given-network, given-entries}
@@ -210,3 +215,35 @@ module _ (network sheet : List ℕ) (cuts : SheetCuts network sheet) where
             go : (o : Option ℕ) → unentered (networkOf network) (note (sheetOf sheet)) ≡ o → firstOf (row {A = HouseNetwork} 17 o ∷ []) (refused 18 k) ≡ refused n place → n ≡ 18
             go none q z = sym (refused-number z)
             go (some i) q z = absurd (neither 17 refl (said-refused 0 17 i (omega arith) (unentered-refused (networkOf network) (sheetOf sheet) 0 i q)))
+
+module _ (network sheet : List ℕ) (small : Bytes network) (cuts : SheetCuts network sheet) where
+  -- what is made of a fragment's record is made of the fragment
+  pub of-part : {A : Type 0} (record-of : List ℕ → Answer A) (said : HouseNetwork → Answer A) (k : ℕ) (out : List ℕ) → Roomy (formOf network) out
+      → ((G : HouseNetwork) → cutNetwork network sheet k ≡ given G → record-of (writeNetwork (formOf network) G) ≡ said G)
+      → andThen (cutInto network sheet k out) record-of ≡ andThen (cut house1 (networkOf network) (sheetOf sheet) k) said
+  of-part {A} record-of said k out roomy same =
+      ap (λ (a : Answer (List ℕ)). andThen a record-of) (into-fragment network sheet k out small roomy)
+      ∙ go (cutNetwork network sheet k) refl
+      ∙ ap (λ (a : Answer HouseNetwork). andThen a said) (cut-said network sheet k (cuts-network network sheet cuts) (cuts-sheet network sheet cuts))
+    where
+      go : (a : Answer HouseNetwork) → cutNetwork network sheet k ≡ a → andThen (andThen a (written (formOf network))) record-of ≡ andThen a said
+      go (given G) q = same G q
+      go (refused m p) q = refl
+
+  -- every own box has a number below 64
+  pub parts-low : Bytes sheet → All (λ (b : Own Route Demand). number (sheetOf sheet) (b .id) < 64) (ownBoxes (networkOf network))
+  parts-low sheet-small = all-map (ownBoxes (networkOf network))
+      (λ b t. number-entered (sheetOf sheet) ((read-sheet sheet sheet-small (cuts-sheet network sheet cuts)) .0 .fragments) (b .id) t)
+      (((cuts-fits house1 (networkOf network) (sheetOf sheet) (bounds (formOf network)) (cuts-sound network sheet cuts small)) .0
+      (cuts-said network sheet cuts small sheet-small)) .entered)
+
+-- a list passes on bytes where it passes on what they say
+module _ (network list : List ℕ) where
+  pub said-passes : SoundRecord network → WellFormed listLead list → Passing house1 (networkOf network) (listOf list) → Passes network list
+  said-passes n l h = (length (ownBoxes (networkOf network)), judge-said network list n l ∙ h)
+
+  pub passes-said : Bytes network → Passes network list
+      → SoundRecord network × WellFormed listLead list × Passing house1 (networkOf network) (listOf list)
+  passes-said small p =
+      let v = judged network list (pass (p .0)) (p .1) in
+      (v .0, v .1, subst (λ (count : ℕ). judge house1 (networkOf network) (listOf list) ≡ given (pass count)) (pass-judged network list small (p .0) (p .1)) (v .2))

@@ -4,42 +4,27 @@ use mathlib.Core.List.{List}
 use mathlib.Core.Logic.{_↔_}
 use Prim.Native.Nat.{ℕ, _<_}
 use native.Mathlib.Omega.{arith}
-use lib.ListN.{length, replicate, length-replicate}
+use lib.ListN.{replicate, length-replicate}
 use Rattle.lists.specs.Bytes.{Bytes}
 use Rattle.lists.specs.Answer.{Answer, given, andThen}
 use Rattle.networks.specs.Cut.{fragment, Agrees, cut, cutTwice as twice, Cuts}
 use Rattle.networks.specs.Judge.{Passes as Passing}
-use Rattle.networks.specs.Network.{ownBoxes}
 use Rattle.networks.specs.Sheets.{number, listed}
 use Rattle.networks.specs.Sound.{Sound}
 use Rattle.networks.proofs.FragmentsAndWhole.{fragments-and-whole}
-use Rattle.networks.proofs.Passing.{pass-count}
 use Rattle.networks.proofs.TwiceRefused.{apart-place}
 use Rattle.networks.proofs.Recutting.{swapped, first-then-second, second-then-first, third-given}
 use Rattle.reading.specs.Largest.{largestNetwork}
 use Rattle.reading.specs.Whole.{HouseNetwork, bounds, writeNetwork, networkOf, sheetOf, listOf}
-use Rattle.judging.proofs.OnBytes.{judge-said}
 use Rattle.cutting.specs.Cutting.{cutNetwork}
 use Rattle.cutting.proofs.OnBytes.{cut-said, record-fine, record-small}
-use Rattle.reading.proofs.Bridges.{read-network}
 use Rattle.promises.specs.Calls.{house1, Passes, cutInto, Roomy}
 use Rattle.promises.specs.Demand3.{FragmentsAndWhole, Refined, CommonRefinement, ApartRefused}
-use Rattle.promises.proofs.Cuts.{written, into-fragment, into-given, record-said, twice-said, given-asked, cuts-network, cuts-sheet, cuts-sound, cuts-said}
+use Rattle.promises.proofs.Cuts.{written, into-fragment, into-given, record-said, twice-said, given-asked, cuts-network, cuts-sheet, cuts-sound, cuts-said, said-passes, passes-said}
 use Rattle.records.specs.Network.{SoundRecord}
 use Rattle.layout.specs.declared.Form.{Form}
 use Rattle.entries.specs.Entries.{WellFormed}
 use Rattle.layout.specs.Form.{formOf, listLead}
-
--- a list passes on bytes where it passes on what they say
-module _ (network list : List ℕ) (n : SoundRecord network) (l : WellFormed listLead list) where
-  said-passes : Passing house1 (networkOf network) (listOf list) → Passes network list
-  said-passes h = (length (ownBoxes (networkOf network)), judge-said network list n l ∙ h)
-
-  passes-said : Bytes network → Passes network list → Passing house1 (networkOf network) (listOf list)
-  passes-said small p =
-      let e = sym (judge-said network list n l) ∙ p .1 in
-      let all = pass-count house1 (bounds (formOf network)) (networkOf network) (listOf list) ((read-network network small n) .0) (p .0) e in
-      rw all at e
 
 -- a buffer with room
 abbrev pub blank : Form → List ℕ
@@ -64,7 +49,7 @@ module _ (network sheet list : List ℕ) (small : Bytes network) (sheet-small : 
 
   pub fragment-passes : Passes W list → Passing house1 G (listOf list)
   fragment-passes p = subst (λ (H : HouseNetwork). Passing house1 H (listOf list)) said
-      (passes-said W list (record-fine network sheet k small G e sheet-small) l (record-small network sheet k small G e sheet-small) p)
+      ((passes-said W list (record-small network sheet k small G e sheet-small) p) .2)
 
 pub fragments-whole : (network sheet list : List ℕ) → FragmentsAndWhole network sheet list
 fragments-whole network sheet list small sheet-small cuts l entered = (
@@ -74,7 +59,7 @@ fragments-whole network sheet list small sheet-small cuts l entered = (
   λ h k out F asked roomy e.
       let g = into-given network sheet k out F e in
       subst (λ (b : List ℕ). Passes b list) (sym (g .2)) (record-passes network sheet list small sheet-small l k (g .0) (g .1)
-      (theorem .1 (passes-said network list n l small (h .0), h .1) k (g .0) (sym (said k) ∙ g .1))),
+      (theorem .1 ((passes-said network list small (h .0)) .2, h .1) k (g .0) (sym (said k) ∙ g .1))),
 )
   where
     n : SoundRecord network

@@ -1,20 +1,16 @@
 -- The fragments of one cut, proved: what a cut leaves says the fragment, so that the theorems about networks hold of it.
-use mathlib.Core.Path.{_≡_, refl, sym, ap, _∙_, fun-ext}
+use mathlib.Core.Path.{_≡_, sym, ap, _∙_, fun-ext}
 use mathlib.Core.Bool.{true}
 use mathlib.Core.List.{List}
 use Prim.Native.Nat.{ℕ, _≤_, _<_}
 use native.Mathlib.Omega.{arith}
 use lib.ListN.{length}
-use Rattle.lists.specs.All.{All}
-use Rattle.lists.proofs.All.{all-map}
 use Rattle.lists.specs.Bytes.{Bytes}
-use Rattle.lists.specs.Answer.{Answer, given, refused, andThen}
-use Rattle.routes.specs.declared.Demand.{Demand}
-use Rattle.routes.specs.declared.Route.{Route}
+use Rattle.lists.specs.Answer.{given}
 use Rattle.networks.specs.Counts as networks
 use Rattle.networks.specs.Cut.{fragment, cut}
 use Rattle.networks.specs.Judge.{pass, judged, judge, Passes as Passing}
-use Rattle.networks.specs.Network.{Own, ownBoxes, owns}
+use Rattle.networks.specs.Network.{owns}
 use Rattle.networks.specs.Sheets.{number}
 use Rattle.networks.proofs.Counting.{counts-add-up}
 use Rattle.networks.proofs.Laws.Cutting.{Fits, own-cut, cuts-fits}
@@ -24,15 +20,15 @@ use Rattle.entries.specs.Entries.{WellFormed}
 use Rattle.layout.specs.Form.{formOf, listLead}
 use Rattle.layout.specs.declared.Form.{Form}
 use Rattle.reading.specs.Whole.{HouseNetwork, HouseSheet, HouseList, bounds, writeNetwork, networkOf, sheetOf, listOf}
-use Rattle.reading.proofs.Bridges.{read-network, read-sheet}
+use Rattle.reading.proofs.Bridges.{read-network}
 use Rattle.judging.specs.Judging.{judgeRecords}
 use Rattle.judging.proofs.OnBytes.{judge-said}
 use Rattle.cutting.specs.Cutting.{cutNetwork}
 use Rattle.cutting.proofs.OnBytes.{said, cut-said, cut-fragment, record-fine, record-form, record-largest}
 use Rattle.promises.specs.Calls.{house1, cutInto, Roomy, SheetCuts}
 use Rattle.promises.specs.Fragments.{CutOut, FragmentsCover, judgedIn, CountsAddUp, CutAgain}
-use Rattle.promises.proofs.Cuts.{written, into-laid, into-given, into-fragment, record-said, number-entered, given-asked}
-use Rattle.promises.proofs.Cuts.{cuts-network, cuts-sheet, cuts-sound, cuts-said}
+use Rattle.promises.proofs.Cuts.{into-laid, into-given, record-said, given-asked}
+use Rattle.promises.proofs.Cuts.{cuts-network, cuts-sheet, cuts-sound, cuts-said, of-part, parts-low}
 use Rattle.promises.proofs.Demand3.{blank, blank-roomy, fragment-passes}
 
 module _ (network sheet : List ℕ) (small : Bytes network) (sheet-small : Bytes sheet) (cuts : SheetCuts network sheet) where
@@ -79,16 +75,9 @@ module _ (network sheet : List ℕ) (small : Bytes network) (sheet-small : Bytes
 
     -- a fragment's record is judged as the fragment
     count-is : (out : ℕ → List ℕ) → ((k : ℕ) → Roomy f (out k)) → (k : ℕ) → judgedIn network sheet list out k ≡ networks.judgedIn house1 N S L k
-    count-is out roomy k = ap judged (
-        ap (λ (a : Answer (List ℕ)). andThen a (λ (F : List ℕ). judgeRecords F list)) (into-fragment network sheet k (out k) small (roomy k))
-        ∙ go (cutNetwork network sheet k) refl
-        ∙ ap (λ (a : Answer HouseNetwork). andThen a (λ (G : HouseNetwork). judge house1 G L)) (cut-is k))
-      where
-        go : (a : Answer HouseNetwork) → cutNetwork network sheet k ≡ a
-            → andThen (andThen a (written f)) (λ (F : List ℕ). judgeRecords F list) ≡ andThen a (λ (G : HouseNetwork). judge house1 G L)
-        go (given G) q = judge-said (writeNetwork f G) list (record-fine network sheet k small G q sheet-small) l
-            ∙ ap (λ (H : HouseNetwork). judge house1 H L) (record-said network sheet k small sheet-small G q)
-        go (refused m p) q = refl
+    count-is out roomy k = ap judged (of-part network sheet small cuts (λ (F : List ℕ). judgeRecords F list) (λ (G : HouseNetwork). judge house1 G L) k (out k) (roomy k)
+        (λ G q. judge-said (writeNetwork f G) list (record-fine network sheet k small G q sheet-small) l
+        ∙ ap (λ (H : HouseNetwork). judge house1 H L) (record-said network sheet k small sheet-small G q)))
 
 pub fragments-cover : (network sheet : List ℕ) → FragmentsCover network sheet
 fragments-cover network sheet small sheet-small cuts = parts-cover (bounds (formOf network)) (networkOf network) (sheetOf sheet)
@@ -99,18 +88,13 @@ pub counts-add : (network sheet list : List ℕ) → CountsAddUp network sheet l
 counts-add network sheet list small sheet-small cuts l entered out roomy parts =
     judge-said network list (cuts-network network sheet cuts) l
     ∙ counts-add-up house1 (bounds (formOf network)) (networkOf network) (sheetOf sheet) (listOf list) (cuts-sound network sheet cuts small)
-    (cuts-said network sheet cuts small sheet-small) passing entered 64 low
+    (cuts-said network sheet cuts small sheet-small) passing entered 64 (parts-low network sheet small cuts sheet-small)
     ∙ ap (λ (count : ℕ → ℕ). given (pass (networks.sum count 64))) (fun-ext (λ k. sym (count-is network sheet small sheet-small cuts list l out roomy k)))
   where
     passing : (k : ℕ) (G : HouseNetwork) → cut house1 (networkOf network) (sheetOf sheet) k ≡ given G → Passing house1 G (listOf list)
     passing k G c = fragment-passes network sheet list small sheet-small l k G (cut-is network sheet small sheet-small cuts k ∙ c)
         (parts k (writeNetwork (formOf network) G) (asked network sheet small sheet-small cuts k G c)
         (laid network sheet small sheet-small cuts k G c (out k) (roomy k)))
-
-    low : All (λ (b : Own Route Demand). number (sheetOf sheet) (b .id) < 64) (ownBoxes (networkOf network))
-    low = all-map (ownBoxes (networkOf network))
-        (λ b t. number-entered (sheetOf sheet) ((read-sheet sheet sheet-small (cuts-sheet network sheet cuts)) .0 .fragments) (b .id) t)
-        (fits network sheet small sheet-small cuts .entered)
 
 pub cut-again : (network sheet : List ℕ) (k : ℕ) → CutAgain network sheet k
 cut-again network sheet k small sheet-small out again F e room =

@@ -1,28 +1,27 @@
 -- What a pass carried, proved: a pass of two records is one of what they say, and what a cut leaves says the fragment, so that the
 -- theorems about networks hold of them.
-use mathlib.Core.Path.{_≡_, refl, sym, ap, _∙_, subst, fun-ext}
+use mathlib.Core.Path.{_≡_, sym, ap, _∙_, subst, fun-ext}
 use mathlib.Core.List.{List}
 use mathlib.Core.Logic.{_↔_}
 use mathlib.Core.Option.{some, Option·none-ne-some, Option·some-injective}
 use Prim.Native.Nat.{ℕ, _<_}
 use native.Mathlib.Omega.{arith}
-use lib.ListN.{length, length-map}
+use lib.ListN.{length-map}
 use Rattle.lists.specs.All.{All}
 use Rattle.lists.proofs.All.{all-map}
-use Rattle.lists.specs.Answer.{Answer, given, refused, andThen}
+use Rattle.lists.specs.Answer.{given, refused}
 use Rattle.lists.specs.Bytes.{Bytes}
 use Rattle.lists.proofs.Filter.{all-mapped, all-filterMap, length-filterMap}
 use Rattle.routes.specs.declared.Demand.{Demand}
 use Rattle.routes.specs.declared.Route.{Route}
 use Rattle.routes.specs.declared.Route.the-variants.{None}
-use Rattle.networks.specs.Judge.{pass, judge, Passes as Passing}
+use Rattle.networks.specs.Judge.{pass, Passes as Passing}
 use Rattle.networks.specs.Network.{Own, Box, own, input, ids, boxId, asOwn, ownBoxes}
-use Rattle.networks.specs.Sheets.{ListEntry, number}
-use Rattle.networks.specs.Silence.{Census, counted, AddsUp, census, Empty, ListsNone, silentList}
+use Rattle.networks.specs.Sheets.{ListEntry}
+use Rattle.networks.specs.Silence.{Census, taken, AddsUp, census, Empty, ListsNone, silentList}
 use Rattle.networks.specs.Silence as networks
 use Rattle.networks.specs.Sound.{Sound}
 use Rattle.networks.proofs.Silence as silence
-use Rattle.networks.proofs.Laws.Cutting.{cuts-fits}
 use Rattle.networks.proofs.Laws.Silence.{listed-silent, silent-rises}
 use Rattle.entries.specs.Entries.{WellFormed}
 use Rattle.layout.specs.Form.{formOf, listLead}
@@ -31,53 +30,36 @@ use Rattle.layout.proofs.OneForm.{form-known}
 use Rattle.records.specs.Network.{SoundRecord}
 use Rattle.reading.specs.Asking.{houseAsking}
 use Rattle.reading.specs.Whole.{HouseNetwork, HouseList, bounds, readList, writeList, networkOf, sheetOf, listOf, ListFormed}
-use Rattle.reading.proofs.Bridges.{read-network, read-sheet, list-form, write-list}
+use Rattle.reading.proofs.Bridges.{read-network, list-form, write-list}
 use Rattle.reading.proofs.RowCodecs.{ListEntryFits}
 use Rattle.reading.proofs.HouseRoutes.{house-choice}
 use Rattle.routes.specs.Carry.{highest}
-use Rattle.judging.proofs.OnBytes.{judge-said, judged, pass-judged}
-use Rattle.cutting.specs.Cutting.{cutNetwork}
-use Rattle.cutting.proofs.OnBytes.{cut-said, cut-fragment}
-use Rattle.promises.specs.Calls.{house1, Passes, Roomy, SheetCuts}
-use Rattle.promises.specs.Silence.{censusOf, censusIn, QuietRecord, SilencePasses, EmptyPass, QuietCounts, CountsQuiet}
+use Rattle.cutting.proofs.OnBytes.{cut-fragment}
+use Rattle.promises.specs.Calls.{house1, Roomy, SheetCuts}
+use Rattle.counting.specs.Text.{censusOf}
+use Rattle.promises.specs.Silence.{censusIn, QuietRecord, SilencePasses, EmptyPass, QuietCounts, CountsQuiet}
 use Rattle.promises.specs.Silence.{AskedHold, NoneSilent, Accounted, SilenceWritten, SilentPart, CensusAddsUp}
-use Rattle.promises.proofs.Cuts.{written, into-given, into-fragment, record-said, number-entered, cuts-network, cuts-sheet, cuts-sound, cuts-said}
+use Rattle.promises.proofs.Cuts.{into-given, record-said, cuts-sound, cuts-said, of-part, parts-low, said-passes, passes-said}
 
 -- what a record says that is not refused
 sound : (network : List ℕ) → Bytes network → SoundRecord network → Sound (bounds (formOf network)) (networkOf network)
 sound network small n = (read-network network small n) .0
 
-module _ (network list : List ℕ) (small : Bytes network) where
-  abbrev N : HouseNetwork
-  N = networkOf network
-
-  abbrev L : HouseList
-  L = listOf list
-
-  -- a pass is of two records that are not refused, and of what they say
-  said : Passes network list → SoundRecord network × WellFormed listLead list × Passing house1 N L
-  said p =
-      let v = judged network list (pass (p .0)) (p .1) in
-      (v .0, v .1, subst (λ (count : ℕ). judge house1 N L ≡ given (pass count)) (pass-judged network list small (p .0) (p .1)) (v .2))
-
-  passed : SoundRecord network → WellFormed listLead list → Passing house1 N L → Passes network list
-  passed n l h = (length (ownBoxes N), judge-said network list n l ∙ h)
-
 pub silence-passes : (network list : List ℕ) → SilencePasses network list
 silence-passes network list small n l none-listed =
     let theorem = silence.silence-passes house1 (house-choice highest) houseAsking (bounds (formOf network)) (networkOf network)
     (sound network small n) (listOf list) none-listed in
-    (λ p. theorem .0 ((said network list small p) .2), λ q. passed network list small n l (theorem .1 q))
+    (λ p. theorem .0 ((passes-said network list small p) .2), λ q. said-passes network list n l (theorem .1 q))
 
 pub empty-pass : (network list : List ℕ) → EmptyPass network list
 empty-pass network list small = (
   counts,
   (
     λ h.
-        let v = said network list small (h .0) in
+        let v = passes-said network list small (h .0) in
         let e = (theorem (v .0)) .0 (v .2, counts .0 (h .1)) in
         (v .0, v .1, e .0, e .1),
-    λ h. let e = (theorem (h .0)) .1 (h .2, h .3) in (passed network list small (h .0) (h .1) (e .0), counts .1 (e .1)),
+    λ h. let e = (theorem (h .0)) .1 (h .2, h .3) in (said-passes network list (h .0) (h .1) (e .0), counts .1 (e .1)),
   ),
 )
   where
@@ -97,16 +79,16 @@ counts-quiet network list = silence.counts-quiet house1 houseAsking (networkOf n
 
 pub asked-hold : (network list : List ℕ) → AskedHold network list
 asked-hold network list small p =
-    let v = (said network list small p) .2 in (
+    let v = (passes-said network list small p) .2 in (
       silence.asked-hold house1 houseAsking (networkOf network) (listOf list) v,
       silence.asked-holding house1 houseAsking (networkOf network) (listOf list) v,
     )
 
 pub none-silent : (network list : List ℕ) → NoneSilent network list
-none-silent network list small asked p = silence.none-silent house1 houseAsking (networkOf network) (listOf list) ((said network list small p) .2) asked
+none-silent network list small asked p = silence.none-silent house1 houseAsking (networkOf network) (listOf list) ((passes-said network list small p) .2) asked
 
 pub accounted : (network list : List ℕ) → Accounted network list
-accounted network list small p = silence.accounted house1 houseAsking (networkOf network) (listOf list) ((said network list small p) .2)
+accounted network list small p = silence.accounted house1 houseAsking (networkOf network) (listOf list) ((passes-said network list small p) .2)
 
 -- the record of the list without a route
 module _ (network : List ℕ) (small : Bytes network) (n : SoundRecord network) where
@@ -162,27 +144,11 @@ module _ (network sheet list : List ℕ) (small : Bytes network) (sheet-small : 
 
   -- a fragment's record has the census of the fragment
   part-is : (out : ℕ → List ℕ) → ((k : ℕ) → Roomy (formOf network) (out k)) → (k : ℕ) → censusIn network sheet list out k ≡ part k
-  part-is out roomy k = ap counted (
-      ap (λ (a : Answer (List ℕ)). andThen a (λ (F : List ℕ). given (censusOf F list))) (into-fragment network sheet k (out k) small (roomy k))
-      ∙ go (cutNetwork network sheet k) refl
-      ∙ ap (λ (a : Answer HouseNetwork). andThen a (λ (G : HouseNetwork). given (census house1 G houseAsking (listOf list))))
-      (cut-said network sheet k (cuts-network network sheet cuts) (cuts-sheet network sheet cuts)))
-    where
-      go : (a : Answer HouseNetwork) → cutNetwork network sheet k ≡ a
-          → andThen (andThen a (written (formOf network))) (λ (F : List ℕ). given (censusOf F list))
-          ≡ andThen a (λ (G : HouseNetwork). given (census house1 G houseAsking (listOf list)))
-      go (given G) q = ap (λ (H : HouseNetwork). given (census house1 H houseAsking (listOf list))) (record-said network sheet k small sheet-small G q)
-      go (refused m p) q = refl
-
-  -- fragment numbers end at 63
-  low : All (λ (b : Own Route Demand). number (sheetOf sheet) (b .id) < 64) (ownBoxes (networkOf network))
-  low = all-map (ownBoxes (networkOf network))
-      (λ b t. number-entered (sheetOf sheet) ((read-sheet sheet sheet-small (cuts-sheet network sheet cuts)) .0 .fragments) (b .id) t)
-      (((cuts-fits house1 (networkOf network) (sheetOf sheet) (bounds (formOf network)) (cuts-sound network sheet cuts small)) .0
-      (cuts-said network sheet cuts small sheet-small)) .entered)
+  part-is out roomy k = ap taken (of-part network sheet small cuts _ (λ (G : HouseNetwork). given (census house1 G houseAsking (listOf list))) k (out k) (roomy k)
+      (λ G q. ap (λ (H : HouseNetwork). given (census house1 H houseAsking (listOf list))) (record-said network sheet k small sheet-small G q)))
 
   parts-add-up : AddsUp part 64 (censusOf network list)
-  parts-add-up = silence.cut-adds-up house1 houseAsking (networkOf network) (sheetOf sheet) (listOf list) 64 low (bounds (formOf network))
+  parts-add-up = silence.cut-adds-up house1 houseAsking (networkOf network) (sheetOf sheet) (listOf list) 64 (parts-low network sheet small cuts sheet-small) (bounds (formOf network))
       (cuts-sound network sheet cuts small) (cuts-said network sheet cuts small sheet-small)
 
 pub census-adds-up : (network sheet list : List ℕ) → CensusAddsUp network sheet list

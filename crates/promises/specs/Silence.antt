@@ -1,5 +1,5 @@
 -- What a pass carried, on bytes: of the judge's passes, and of the census of what two records say. The judge does not look at it.
---     censusOf, censusIn                            the census of two records, and of the record that is cut out for a fragment
+--     censusIn                                      the census of the record that is cut out for a fragment
 --     SilencePasses, SilenceWritten, EmptyPass      a list that holds no route anywhere passes exactly where nothing asks for one
 --     QuietCounts, CountsQuiet                      and what a census says of that
 --     AskedHold, NoneSilent, Accounted              whose silence a pass can have
@@ -20,20 +20,18 @@ use Rattle.routes.specs.declared.Route.{Route}
 use Rattle.routes.specs.declared.Route.the-variants.{None}
 use Rattle.networks.specs.Network.{Own, ownBoxes}
 use Rattle.networks.specs.Sheets.{number}
-use Rattle.networks.specs.Silence.{Census, counted, AddsUp, census, silent, told, Empty, ListsNone, silentList, Quiet}
+use Rattle.networks.specs.Silence.{Census, taken, AddsUp, census, silent, told, Empty, ListsNone, silentList, Quiet}
 use Rattle.layout.specs.Form.{formOf, listLead}
 use Rattle.entries.specs.Entries.{WellFormed}
 use Rattle.records.specs.Network.{SoundRecord}
 use Rattle.reading.specs.Asking.{asksRoute, houseAsking}
 use Rattle.reading.specs.Whole.{HouseNetwork, HouseList, networkOf, sheetOf, listOf, writeList}
+use Rattle.counting.specs.Text.{censusOf}
 use Rattle.promises.specs.Calls.{house1, Passes, cutInto, Roomy, SheetCuts}
-
-abbrev pub censusOf : List ℕ → List ℕ → Census
-censusOf network list = census house1 (networkOf network) houseAsking (listOf list)
 
 -- that of fragment k, when it is cut into a buffer; of nobody where it is refused
 abbrev pub censusIn : List ℕ → List ℕ → List ℕ → (ℕ → List ℕ) → ℕ → Census
-censusIn network sheet list out k = counted (andThen (cutInto network sheet k (out k)) (λ (F : List ℕ). given (censusOf F list)))
+censusIn network sheet list out k = taken (andThen (cutInto network sheet k (out k)) (λ (F : List ℕ). given (censusOf F list)))
 
 -- The network is one in which silence passes.
 abbrev pub QuietRecord : List ℕ → Type 0

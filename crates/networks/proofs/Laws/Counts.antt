@@ -1,11 +1,8 @@
--- How many elements of a list meet a test.
---     sum-numbers             those with each number below n, added up, are all, where no number is over
---     filter-swap, -mapped    two tests in either order; a test over images
---     count-none, -within, -split     no element meets it; those that meet another besides; those that do and those that do not
+-- The elements of a list with each number below n, added up, are all of them, where no number is over.
 use mathlib.Core.Path.{_≡_, refl, sym, ap, _∙_}
-use mathlib.Core.Bool.{Bool, true, false, cond, not, _&&_, and-comm, false≢true}
-use mathlib.Core.List.{List, [], _∷_, map}
-use mathlib.Core.Logic.{_↔_, ⊎-elim}
+use mathlib.Core.Bool.{Bool, true, false}
+use mathlib.Core.List.{List, [], _∷_}
+use mathlib.Core.Logic.{⊎-elim}
 use Prim.Native.Nat.{ℕ, zero, suc, _+_, _≤_, _<_}
 use native.Mathlib.Omega.{arith}
 use lib.Dec.{eqb, ltb}
@@ -14,7 +11,7 @@ use borrow.Author.Tests.{eqb-true, eqb-false, ne-eqb, lt-ltb, le-ltb}
 use Rattle.lists.specs.All.{All}
 use Rattle.lists.proofs.All.{all-map, all-of, false-any}
 use Rattle.lists.specs.Filter.{filter}
-use Rattle.lists.proofs.Filter.{filter-congr, filter-filter, filter-all, filter-none}
+use Rattle.lists.proofs.Filter.{filter-all, filter-none}
 use Rattle.lists.proofs.Test.{le-or-lt}
 use Rattle.networks.specs.Counts.{sum}
 
@@ -51,56 +48,3 @@ module _ {A : Type 0} (number : A → ℕ) where
 
   pub sum-numbers : (n : ℕ) (xs : List A) → All (λ (x : A). number x < n) xs → sum (λ (k : ℕ). length (having k xs)) n ≡ length xs
   sum-numbers n xs h = sum-below n xs ∙ ap length (filter-all (λ (x : A). ltb (number x) n) xs (all-map xs (λ x l. lt-ltb (number x) n l) h))
-
-module _ {A : Type 0} where
-  pub filter-swap : (p q : A → Bool) (xs : List A) → filter q (filter p xs) ≡ filter p (filter q xs)
-  filter-swap p q xs = filter-filter p q xs
-      ∙ filter-congr (λ (x : A). p x && q x) (λ (x : A). q x && p x) xs (all-of xs (λ x. and-comm (p x) (q x)))
-      ∙ sym (filter-filter q p xs)
-
-  -- no element meets the test
-  none-counted : (p : A → Bool) (xs : List A) → length (filter p xs) ≡ 0 → All (λ (x : A). p x ≡ false) xs
-  none-counted p [] e = tt
-  none-counted p (x ∷ xs) e = go (p x) refl e (none-counted p xs)
-    where
-      go : (t : Bool) → p x ≡ t → length (cond t (x ∷ filter p xs) (filter p xs)) ≡ 0
-          → (length (filter p xs) ≡ 0 → All (λ (y : A). p y ≡ false) xs) → (p x ≡ false) × All (λ (y : A). p y ≡ false) xs
-      go true q z r = absurd (omega arith)
-      go false q z r = (q, r z)
-
-  pub count-none : (p : A → Bool) (xs : List A) → (length (filter p xs) ≡ 0) ↔ All (λ (x : A). p x ≡ false) xs
-  count-none p xs = (none-counted p xs, λ h. ap length (filter-none p xs (false-any p xs h)))
-
-  -- every element that meets the first test meets the second
-  pub count-within : (p q : A → Bool) (xs : List A) → All (λ (x : A). p x ≡ true → q x ≡ true) xs → length (filter p xs) ≤ length (filter q xs)
-  count-within p q [] h = omega arith
-  count-within p q (x ∷ xs) h = go (p x) (q x) (h .0) (count-within p q xs (h .1))
-    where
-      go : (s t : Bool) → (s ≡ true → t ≡ true) → length (filter p xs) ≤ length (filter q xs)
-          → length (cond s (x ∷ filter p xs) (filter p xs)) ≤ length (cond t (x ∷ filter q xs) (filter q xs))
-      go true true f l = omega arith
-      go true false f l = absurd (false≢true (f refl))
-      go false true f l = omega arith
-      go false false f l = l
-
-  -- each element meets the test or does not
-  pub count-split : (p : A → Bool) (xs : List A) → length (filter p xs) + length (filter (λ (x : A). not (p x)) xs) ≡ length xs
-  count-split p [] = refl
-  count-split p (x ∷ xs) = go (p x) (count-split p xs)
-    where
-      go : (t : Bool) → length (filter p xs) + length (filter (λ (y : A). not (p y)) xs) ≡ length xs
-          → length (cond t (x ∷ filter p xs) (filter p xs))
-          + length (cond (not t) (x ∷ filter (λ (y : A). not (p y)) xs) (filter (λ (y : A). not (p y)) xs)) ≡ suc (length xs)
-      go true e = omega arith
-      go false e = omega arith
-
--- the images that meet a test
-pub filter-mapped : {A B : Type 0} (f : A → B) (p : B → Bool) (xs : List A) → filter p (map f xs) ≡ map f (filter (λ (x : A). p (f x)) xs)
-filter-mapped f p [] = refl
-filter-mapped {A} f p (x ∷ xs) = go (p (f x)) (filter-mapped f p xs)
-  where
-    go : (t : Bool) → filter p (map f xs) ≡ map f (filter (λ (y : A). p (f y)) xs)
-        → cond t (f x ∷ filter p (map f xs)) (filter p (map f xs))
-        ≡ map f (cond t (x ∷ filter (λ (y : A). p (f y)) xs) (filter (λ (y : A). p (f y)) xs))
-    go true e = ap (_∷_ (f x)) e
-    go false e = e
