@@ -1,5 +1,5 @@
 -- The rows that edges leave, as the code marks and reads them.
---     marking               the row of an edge's from end is marked
+--     marking-there, -done  the row of an edge's from end is there, and marked
 --     edge-read             one edge is read
 --     edging                the ways on of the loop over the edges
 --     leaving, inputs       an input that no edge leaves, and the loop that looks for one
@@ -44,8 +44,8 @@ module _ (f : Form) (b : List ℕ) where
     pub marking-there : edgeFormed f b o ≡ true → boxed f b from ≡ true
     marking-there e = rw p (sender o e)
 
-    pub marking-done : (left : List ℕ) (row : ℕ) → row ≡ rowOf f b from → set left row 1 ≡ set left (rowOf f b (u16At b (o + 2))) 1
-    marking-done left row q = rw (q, p)
+  pub marking-done : (left : List ℕ) (from row : ℕ) → row ≡ rowOf f b from → set left row 1 ≡ set left (rowOf f b from) 1
+  marking-done left from row q = rw q
 
   -- one edge is read
   module _ (j at : ℕ) (e : at ≡ edgeOffset f b j) where
@@ -53,14 +53,23 @@ module _ (f : Form) (b : List ℕ) where
       pub edge-here : at + 5 ≤ length b
       edge-here = omega (arith, edge-room f b r j l)
 
+      pub edge-to-here : at + 2 ≤ length b
+      edge-to-here = let h = edge-here in omega arith
+
+      pub edge-from-here : at + 2 + 2 ≤ length b
+      edge-from-here = let h = edge-here in omega arith
+
+      pub edge-from-sum : length b < 2 ^ 64 → Fits w64 (at + 2)
+      edge-from-sum g = let h = edge-here in omega arith
+
     pub from-is : edgeFrom f b j ≡ u16At b (at + 2)
     unfolding edgeFrom
     from-is = rw e
 
-    module _ (key low : ℕ) (k : key ≡ u16At b at * 65536 + u16At b (at + 2)) (h : low ≡ least (edgeKey f b) j) where
+    module _ (to from key low : ℕ) (p : to ≡ u16At b at) (s : from ≡ u16At b (at + 2)) (k : key ≡ to * 65536 + from) (h : low ≡ least (edgeKey f b) j) where
       key-is : key ≡ edgeKey f b j
       unfolding edgeKey edgeTo edgeFrom
-      key-is = rw (← e) k
+      key-is = rw (← e, ← p, ← s) k
 
       pub read-low : key < low → edgeOk f b j ≡ false
       unfolding edgeOk
@@ -86,9 +95,9 @@ module _ (f : Form) (b : List ℕ) where
             unfolding keyAfter
             good-next = rw good (ap (λ (x : ℕ). x + 1) key-is)
 
-            pub good-marks : (left marked : List ℕ) → marked ≡ set left (rowOf f b (u16At b (at + 2))) 1 → marked ≡ markedBy f b (edgeOk f b) j left
+            pub good-marks : (left marked : List ℕ) → marked ≡ set left (rowOf f b from) 1 → marked ≡ markedBy f b (edgeOk f b) j left
             unfolding markedBy
-            good-marks left marked d = rw (good, from-is) d
+            good-marks left marked d = rw (good, from-is, ← s) d
 
   -- an edge that is not in order changes nothing
   module _ (j : ℕ) (e : edgeOk f b j ≡ false) where
@@ -108,9 +117,7 @@ module _ (f : Form) (b : List ℕ) where
       go true q = absurd (omega arith)
       go false q = refl
 
-pub ruleset marking = (marking-there, marking-done)
-
-pub ruleset edge-read = (edge-here, read-low, read-ill, read-formed, good-next, good-marks, bad-next, bad-marks)
+pub ruleset edge-read = (edge-here, edge-to-here, edge-from-here, edge-from-sum, marking-there, read-low, read-ill, read-formed, good-next, good-marks, bad-next, bad-marks)
 
 -- what the loop over the edges knows
 pub record Edging (f : Form) (b : List ℕ) (n j o low : ℕ) (left₀ left : List ℕ) : Type 0 where

@@ -7,7 +7,7 @@ ghost use Rattle.lists.specs.First.{firstBad};
 ghost use Rattle.lists.specs.Gather.{tableAfter};
 ghost use Rattle.lists.specs.Rising.{least};
 ghost use Rattle.numbers.specs.BigEndian.{u16At};
-ghost use Rattle.records.specs.Edge.{edgeKey, owned, endsFormed, edgeFormed, edgeOk, inputOk};
+ghost use Rattle.records.specs.Edge.{edgeKey, boxed, owned, endsFormed, edgeFormed, edgeOk, inputOk};
 ghost use Rattle.layout.specs.Layout.{Room, nodeCount, edgeCount, edgeOffset};
 ghost use Rattle.nodes.specs.Node.{nodeId, rowOf};
 ghost use Rattle.records.specs.Rows.{Tabled, keyAfter, markedBy, Marked, anyEdge};
@@ -44,35 +44,36 @@ fn ends_formed(form: Form, b: &[u8], rows: &[u16; 65536], to: u16, from: u16) ->
     to != from
 }
 
-// Whether the edge at an offset is well formed.
-fn edge_formed(form: Form, b: &[u8], rows: &[u16; 65536], at: usize) -> bool
+// Whether the edge at an offset is well formed, whose ends were read.
+fn edge_formed(form: Form, b: &[u8], rows: &[u16; 65536], to: u16, from: u16, at: usize) -> bool
     requires { ⌜ Tabled form (now b) (now rows) × (at + 5 ≤ length (now b)) ⌝ }
+    requires { ⌜ (to ≡ u16At (now b) at) × (from ≡ u16At (now b) (at + 2)) ⌝ }
     ensures { λ r. ⌜ r ≡ edgeFormed form (now (b .entry)) at ⌝ }
 {
-    if !ends_formed(form, b, rows, u16_at(b, at), u16_at(b, at + 2)) {
+    if !ends_formed(form, b, rows, to, from) {
         return false;
     }
     b[at + 4] < b[POLICIES_FIELD]
 }
 
 // What the edges are sorted by: the to end, then the from end.
-fn edge_key(b: &[u8], at: usize) -> usize
-    requires { ⌜ at + 5 ≤ length (now b) ⌝ }
-    ensures { λ r. ⌜ (r ≡ u16At (now (b .entry)) at * 65536 + u16At (now (b .entry)) (at + 2)) × (r < 4294967296) ⌝ }
+fn edge_key(to: u16, from: u16) -> usize
+    ensures { λ r. ⌜ (r ≡ to * 65536 + from) × (r < 4294967296) ⌝ }
 {
-    (u16_at(b, at) as usize) * 65536 + (u16_at(b, at + 2) as usize)
+    (to as usize) * 65536 + (from as usize)
 }
 
-// Marks the row of the from end of the edge at an offset.
-fn mark_left(form: Form, b: &[u8], rows: &[u16; 65536], left: &mut [u8; ROWS], at: usize)
-    requires { ⌜ Tabled form (now b) (now rows) × (at + 5 ≤ length (now b)) × (edgeFormed form (now b) at ≡ true) ⌝ }
-    ensures { λ _. ⌜ now (left .exit) ≡ set (now (left .entry)) (rowOf form (now (b .entry)) (u16At (now (b .entry)) (at + 2))) 1 ⌝ }
+// Marks the row of the node with an id.
+fn mark_left(form: Form, b: &[u8], rows: &[u16; 65536], left: &mut [u8; ROWS], from: u16)
+    requires { ⌜ Tabled form (now b) (now rows) × (boxed form (now b) from ≡ true) ⌝ }
+    ensures { λ _. ⌜ now (left .exit) ≡ set (now (left .entry)) (rowOf form (now (b .entry)) from) 1 ⌝ }
 {
-    left[row_in(form, b, rows, u16_at(b, at + 2))] = 1;
+    left[row_in(form, b, rows, from)] = 1;
 }
 
 // Reads the j-th edge, which stands at an offset and whose key may be low at least. Where it is in order the row of its from
-// end is marked, and the answer is what the next key may be at least; else nothing is marked, and the answer is 0.
+// end is marked, and the answer is what the next key may be at least; else nothing is marked, and the answer is 0. Each end is
+// read once.
 fn read_edge(
     form: Form,
     b: &[u8],
@@ -87,14 +88,16 @@ fn read_edge(
     ensures next { λ r. ⌜ r ≡ keyAfter form (now (b .entry)) j ⌝ }
     ensures marks { λ _. ⌜ now (left .exit) ≡ markedBy form (now (b .entry)) (edgeOk form (now (b .entry))) j (now (left .entry)) ⌝ }
 {
-    let key = edge_key(b, at);
+    let to = u16_at(b, at);
+    let from = u16_at(b, at + 2);
+    let key = edge_key(to, from);
     if key < low {
         return 0;
     }
-    if !edge_formed(form, b, rows, at) {
+    if !edge_formed(form, b, rows, to, from, at) {
         return 0;
     }
-    mark_left(form, b, rows, left, at);
+    mark_left(form, b, rows, left, from);
     key + 1
 }
 

@@ -4,15 +4,6 @@ use borrow.Author.Needs.{needs}
 use Rattle.records.proofs.edges.edge_formed.Statement.{statement}
 use Rattle.records.proofs.edges.edge_formed.Tie as tie
 
-u16-at-requires : tie.Need-u16-at-requires
-u16-at-requires c κs = search needs
-
-add-u16-at : tie.Need-add-u16-at
-add-u16-at c = search needs
-
-u16-at-requires-2 : tie.Need-u16-at-requires-2
-u16-at-requires-2 c κs = search needs
-
 ends-formed-requires : tie.Need-ends-formed-requires
 ends-formed-requires c κs = search needs
 
@@ -35,9 +26,6 @@ pub edge-formed-spec : {M : Type 1} → statement M
 edge-formed-spec =
     tie.close
     (tie.spec
-    u16-at-requires
-    add-u16-at
-    u16-at-requires-2
     ends-formed-requires
     returns
     add-result
