@@ -11,7 +11,6 @@ use lib.ListN.{length, take, drop}
 use types.Run.{OneOf, miss}
 use denote.Enum.Declared.{tagOf}
 use Rattle.lists.specs.Answer.{given, refused}
-use Rattle.lists.specs.Laid.{placed}
 use Rattle.lists.proofs.Answer.{given-same}
 use Rattle.routes.specs.Carry.{highest}
 use Rattle.networks.specs.Judge.{pass}
@@ -71,15 +70,9 @@ module _ (f : Form) (network list : List ℕ) (v : Verdict) (h : answerOf v ≡ 
     unfolding verdictAt
     all-judged = (pass-verdict (house highest) (readNetwork f network) (readList f list) 0 boxes (ownBoxes (readNetwork f network)) (given-same verdict-is)) .1 ∙ zero-add _
 
-    pass-told : (t : Tally) → t ≡ tallyOf f network list boxes → passRows f network list t ≡ told
+    pub pass-told : (t : Tally) → t ≡ tallyOf f network list boxes → passRows f network list t ≡ told
     unfolding censusFrom verdictLine
     pass-told t q = rw (q, verdict-is) (pass-census f network list boxes all-judged)
-
-    pub pass-count : (t : Tally) (r : ℕ) → t ≡ tallyOf f network list boxes → r ≡ length (passRows f network list t) → r ≡ length told
-    pass-count t r q g = g ∙ ap length (pass-told t q)
-
-    pub pass-placed : (t : Tally) (out out′ : List ℕ) → t ≡ tallyOf f network list boxes → out′ ≡ placed (passRows f network list t) out → out′ ≡ placed told out
-    pass-placed t out out′ q g = g ∙ ap (λ (l : List ℕ). placed l out) (pass-told t q)
 
   module _ (k : OneOf (1 ∷ 2 ∷ 3 ∷ 4 ∷ []) (tagOf the-type v)) (l : Line) (m : lineBytes l ≡ verdictLine (answerOf v)) where
     nothing-behind : (lines : List ℕ) → behindPass (answerOf v) lines ≡ []
@@ -92,74 +85,44 @@ module _ (f : Form) (network list : List ℕ) (v : Verdict) (h : answerOf v ≡ 
         go (DemandUnmet x) j = refl
         go (Refused r) j = refl
 
-    line-told : lineBytes l ≡ told
+    pub line-told : lineBytes l ≡ told
     unfolding censusFrom
     line-told = m ∙ rw (← h, nothing-behind _) (sym (append-nil (verdictLine (answerOf v))))
 
-    pub line-count : (r : ℕ) → r ≡ length (lineBytes l) → r ≡ length told
-    line-count r g = g ∙ ap length line-told
-
-    pub line-placed : (out out′ : List ℕ) → out′ ≡ placed (lineBytes l) out → out′ ≡ placed told out
-    line-placed out out′ g = g ∙ ap (λ (x : List ℕ). placed x out) line-told
-
-pub ruleset verdicts = (prepared-standing, pass-count, pass-placed, line-count, line-placed)
+pub ruleset verdicts = (prepared-standing, pass-told, line-told)
 
 -- by what is refused before
 module _ (network list : List ℕ) (c : Check) (h : checkAnswer c ≡ prepareRefusal network list) where
   module _ (r : Refusal) (e : c ≡ Check·Refused r) (l : Line) (m : lineBytes l ≡ verdictLine (answerOf (Refused r))) where
-    refused-told : lineBytes l ≡ censusRecords network list
+    pub refused-told : lineBytes l ≡ censusRecords network list
     unfolding censusRecords
     refused-told = m ∙ rw (← judge-refused network list c h r e) (sym (append-nil (verdictLine (refusing r))))
 
-    pub refused-count : (n : ℕ) → n ≡ length (lineBytes l) → n ≡ length (censusRecords network list)
-    refused-count n g = g ∙ ap length refused-told
-
-    pub refused-placed : (out out′ : List ℕ) → out′ ≡ placed (lineBytes l) out → out′ ≡ placed (censusRecords network list) out
-    refused-placed out out′ g = g ∙ ap (λ (x : List ℕ). placed x out) refused-told
-
   module _ (f : Form) (e : c ≡ Fine f) where
-    judged-told : censusFrom f network list (verdictAt f network list) ≡ censusRecords network list
+    pub judged-told : censusFrom f network list (verdictAt f network list) ≡ censusRecords network list
     unfolding censusFrom censusRecords
     judged-told =
         let own : formOf network ≡ f = given-form network list f (sym h ∙ ap checkAnswer e) in
         let one : formOf list ≡ f = one-form list network ∙ own in
         rw (own, one, judge-searched network list c h f e (verdictAt f network list) refl)
 
-    pub judged-count : (n : ℕ) → n ≡ length (censusFrom f network list (verdictAt f network list)) → n ≡ length (censusRecords network list)
-    judged-count n g = g ∙ ap length judged-told
-
-    pub judged-placed : (out out′ : List ℕ) → out′ ≡ placed (censusFrom f network list (verdictAt f network list)) out → out′ ≡ placed (censusRecords network list) out
-    judged-placed out out′ g = g ∙ ap (λ (x : List ℕ). placed x out) judged-told
-
-pub ruleset entering = (refused-count, refused-placed, judged-count, judged-placed)
+pub ruleset entering = (refused-told, judged-told)
 
 -- by the input's length
 module _ (input : List ℕ) (bound : ℕ) (b : bound ≡ judgeBound) where
   module _ (h : bound < length input) where
-    over-told : lineBytes (Line·Refused 5 bound) ≡ censusText input
+    pub over-told : lineBytes (Line·Refused 5 bound) ≡ censusText input
     unfolding censusText lineBytes
     over-told = rw b (bound-over judgeBound input _ (rw b at h))
-
-    pub over-count : (r : ℕ) → r ≡ length (lineBytes (Line·Refused 5 bound)) → r ≡ length (censusText input)
-    over-count r g = g ∙ ap length over-told
-
-    pub over-placed : (out out′ : List ℕ) → out′ ≡ placed (lineBytes (Line·Refused 5 bound)) out → out′ ≡ placed (censusText input) out
-    over-placed out out′ g = g ∙ ap (λ (x : List ℕ). placed x out) over-told
 
   module _ (first : ℕ) (h : length input ≤ bound) (e : first ≡ firstLength input) where
     abbrev counted : List ℕ
     counted = censusRecords (take (first - 0) (drop 0 input)) (take (length input - first) (drop first input))
 
-    input-told : counted ≡ censusText input
+    pub input-told : counted ≡ censusText input
     unfolding censusText
     input-told =
         let same : counted ≡ censusRecords (firstRecord input) (restOf input) = rw (sub-zero, rest-lent, e) in
         same ∙ bound-kept judgeBound input _ (rw b at h)
 
-    pub input-count : (r : ℕ) → r ≡ length counted → r ≡ length (censusText input)
-    input-count r g = g ∙ ap length input-told
-
-    pub input-placed : (out out′ : List ℕ) → out′ ≡ placed counted out → out′ ≡ placed (censusText input) out
-    input-placed out out′ g = g ∙ ap (λ (x : List ℕ). placed x out) input-told
-
-pub ruleset census-texts = (over-count, over-placed, input-count, input-placed)
+pub ruleset census-texts = (over-told, input-told)

@@ -33,7 +33,7 @@ use Rattle.cutting.specs.Cutting.{cutNetwork}
 use Rattle.cutting.specs.Text.{cutOutput, askedOf, behindAsked, cutBound, cutText}
 use Rattle.cutting.proofs.Starts.{cut-start}
 use Rattle.cutting.proofs.TextLaws.{text-fits}
-use Rattle.promises.specs.Programs.{JudgeReads, CutReads, CensusReads, CensusPrints, judgeAnswer, cutAnswer, JudgePrints, CutWrites, judgeMark, JudgeShows, cutMark, CutShows}
+use Rattle.promises.specs.Programs.{JudgeReads, CutReads, CensusReads, CensusPrints, inputJudged, inputCut, JudgePrints, CutWrites, judgeMark, JudgeShows, cutMark, CutShows}
 
 -- the first bytes of an input, one more than a bound
 start-told : (bound : ℕ) (text : List ℕ → List ℕ) → ((read more : List ℕ) → bound < length read → text (read ++ more) ≡ text read)
@@ -86,7 +86,7 @@ judge-prints input = go (ltb judgeBound (length input))
     go false = refl
 
 pub judge-shows : (input : List ℕ) → JudgeShows input
-judge-shows input = ap (take 1) (judge-prints input) ∙ verdict-first (judgeAnswer input)
+judge-shows input = ap (take 1) (judge-prints input) ∙ verdict-first (inputJudged input)
 
 pub cut-writes : (input : List ℕ) → CutWrites input
 unfolding cutText withinBound cutOutput
@@ -125,4 +125,4 @@ cut-short input =
 pub cut-shows : (input : List ℕ) → CutShows input
 cut-shows input =
     let written = cut-writes input in
-    ap (take 1) written ∙ output-first (formOf (firstRecord input)) (cutAnswer input) (rw written at (cut-short input))
+    ap (take 1) written ∙ output-first (formOf (firstRecord input)) (inputCut input) (rw written at (cut-short input))

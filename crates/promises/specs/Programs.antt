@@ -1,7 +1,7 @@
 -- What the programs promise beside the lines that document 01 gives them: how much of an input counts, and how a script tells one
 -- answer from another.
 --     JudgeReads, CutReads, CensusReads     no byte counts that is further back than one behind the longest input
---     judgeAnswer, cutAnswer    what is answered to an input
+--     inputJudged, inputCut    what is answered to an input
 --     JudgePrints, CutWrites, CensusPrints  the output is that answer's, and behind a pass the census
 --     JudgeShows, CutShows      the first byte of the output says which kind of answer it is
 use mathlib.Core.Path.{_≡_}
@@ -36,22 +36,22 @@ abbrev pub CensusReads : List ℕ → Type 0
 CensusReads input = censusText (take (judgeBound + 1) input) ≡ censusText input
 
 -- An input over the bound is refused with 5, the bound as its place; any other is split and judged, or cut.
-abbrev pub judgeAnswer : List ℕ → Answer (Verdict Route)
-judgeAnswer input = firstOf ((ltb judgeBound (length input), refused 5 judgeBound) ∷ []) (judgeRecords (firstRecord input) (restOf input))
+abbrev pub inputJudged : List ℕ → Answer (Verdict Route)
+inputJudged input = firstOf ((ltb judgeBound (length input), refused 5 judgeBound) ∷ []) (judgeRecords (firstRecord input) (restOf input))
 
-abbrev pub cutAnswer : List ℕ → Answer HouseNetwork
-cutAnswer input = firstOf ((ltb cutBound (length input), refused 5 cutBound) ∷ [])
+abbrev pub inputCut : List ℕ → Answer HouseNetwork
+inputCut input = firstOf ((ltb cutBound (length input), refused 5 cutBound) ∷ [])
     (cutNetwork (firstRecord input) (behindAsked (restOf input)) (askedOf (restOf input)))
 
 abbrev pub JudgePrints : List ℕ → Type 0
-JudgePrints input = judgeText input ≡ verdictLine (judgeAnswer input)
+JudgePrints input = judgeText input ≡ verdictLine (inputJudged input)
 
 abbrev pub CutWrites : List ℕ → Type 0
-CutWrites input = cutText input ≡ cutOutput (formOf (firstRecord input)) (cutAnswer input)
+CutWrites input = cutText input ≡ cutOutput (formOf (firstRecord input)) (inputCut input)
 
 -- The census begins with the judge's line, and has the counts and the silent boxes behind it on a pass, and otherwise nothing.
 abbrev pub CensusPrints : List ℕ → Type 0
-CensusPrints input = censusText input ≡ judgeText input ++ behindPass (judgeAnswer input) (censusLines (censusOf (firstRecord input) (restOf input)))
+CensusPrints input = censusText input ≡ judgeText input ++ behindPass (inputJudged input) (censusLines (censusOf (firstRecord input) (restOf input)))
 
 -- The judge's line begins with a `p` on a pass, with an `f` on a finding, with an `r` on a refusal.
 abbrev pub judgeMark : Answer (Verdict Route) → List ℕ
@@ -60,7 +60,7 @@ judgeMark (given (found number node route count)) = text "f"
 judgeMark (refused number place) = text "r"
 
 abbrev pub JudgeShows : List ℕ → Type 0
-JudgeShows input = take 1 (judgeText input) ≡ judgeMark (judgeAnswer input)
+JudgeShows input = take 1 (judgeText input) ≡ judgeMark (inputJudged input)
 
 -- The cutter's output begins with a zero byte where it is a fragment's record, with an `r` on a refusal.
 abbrev pub cutMark : Answer HouseNetwork → List ℕ
@@ -68,4 +68,4 @@ cutMark (given fragment) = 0 ∷ []
 cutMark (refused number place) = text "r"
 
 abbrev pub CutShows : List ℕ → Type 0
-CutShows input = take 1 (cutText input) ≡ cutMark (cutAnswer input)
+CutShows input = take 1 (cutText input) ≡ cutMark (inputCut input)

@@ -1,6 +1,7 @@
 -- What is refused has its line alone, and the rest is judged.
 use Rattle.counting.proofs.EntryLaws.{entering}
 use Rattle.preparing.proofs.GivenLaws.{prepared-after}
+use Rattle.lines.proofs.Answers.{answering}
 use borrow.Author.Needs.{needs}
 use Rattle.counting.proofs.entry.census.Statement.{statement}
 use Rattle.counting.proofs.entry.census.Tie as tie
@@ -36,13 +37,13 @@ same-length : tie.Need-same-length
 same-length c = search needs
 
 returns : tie.Need-returns
-returns c = search (needs, entering)
+returns c = (search (answering, entering), search (answering, entering))
 
 same-length-2 : tie.Need-same-length-2
 same-length-2 c = search needs
 
 returns-2 : tie.Need-returns-2
-returns-2 c = search (needs, entering)
+returns-2 c = (search (answering, entering), search (answering, entering))
 
 pub census-spec : {M : Type 1} → statement M
 census-spec =

@@ -1,5 +1,6 @@
 -- Over the bound, or counted.
 use Rattle.counting.proofs.EntryLaws.{census-texts}
+use Rattle.lines.proofs.Answers.{answering}
 use borrow.Author.Needs.{needs}
 use Rattle.counting.proofs.entry.census_bytes.Statement.{statement}
 use Rattle.counting.proofs.entry.census_bytes.Tie as tie
@@ -14,7 +15,7 @@ same-length : tie.Need-same-length
 same-length c = search needs
 
 returns : tie.Need-returns
-returns c = search (needs, census-texts)
+returns c = (search (answering, census-texts), search (answering, census-texts))
 
 first-length-requires : tie.Need-first-length-requires
 first-length-requires c κs = search (needs, census-texts)
@@ -44,7 +45,7 @@ same-length-2 : tie.Need-same-length-2
 same-length-2 c = search needs
 
 returns-2 : tie.Need-returns-2
-returns-2 c = search (needs, census-texts)
+returns-2 c = (search (answering, census-texts), search (answering, census-texts))
 
 pub census-bytes-spec : {M : Type 1} → statement M
 census-bytes-spec =

@@ -1,5 +1,6 @@
 -- A pass is counted; any other verdict has its line alone.
 use Rattle.counting.proofs.EntryLaws.{verdicts}
+use Rattle.lines.proofs.Answers.{answering}
 use borrow.Author.Needs.{needs}
 use Rattle.counting.proofs.entry.place_judged.Statement.{statement}
 use Rattle.counting.proofs.entry.place_judged.Tie as tie
@@ -20,7 +21,7 @@ same-length : tie.Need-same-length
 same-length c = search needs
 
 returns : tie.Need-returns
-returns c = search (needs, verdicts)
+returns c = (search (answering, verdicts), search (answering, verdicts))
 
 tally-requires : tie.Need-tally-requires
 tally-requires c κs = search (needs, verdicts)
@@ -32,7 +33,7 @@ same-length-2 : tie.Need-same-length-2
 same-length-2 c = search needs
 
 returns-2 : tie.Need-returns-2
-returns-2 c = search (needs, verdicts)
+returns-2 c = (search (answering, verdicts), search (answering, verdicts))
 
 pub place-judged-spec : {M : Type 1} → statement M
 place-judged-spec =
