@@ -7,7 +7,7 @@
 A plan NAME is NAME.network, NAME.list and NAME.sheet, put together as NAME.judge (what the judge
 reads) and NAME.cutK (what the cutter reads to cut out fragment K). Each input's answer stands in
 the file of the same name with .out behind it. NAME.partK.judge is fragment K, as it was cut out,
-with the list of the whole. Of some plans NAME.census and NAME.partK.census are the same inputs, for
+with the list of the whole; there is none where the cut is refused. Of some plans NAME.census and NAME.partK.census are the same inputs, for
 the census.
 """
 
@@ -114,6 +114,18 @@ def bad_gadget():
     return plan, held, {1: 0, 2: 1, 3: 2, 4: 2}, held
 
 
+def quoting(add=0):
+    """Boxes 1 and 2 hold a route that neither started, each by quoting the other. Cut 1 | 2."""
+    plan = network([policy(add=add)], {1: node(1), 2: node(2)}, both_ways([(1, 2)]))
+    held = {1: route(100, 5, 1), 2: route(100, 5, 1)}
+    return plan, held, {1: 0, 2: 1}, held
+
+
+def quoting_add_1():
+    """The same over wires that add 1."""
+    return quoting(1)
+
+
 def fat_tree_wires():
     """Four pods under a spine of four: boxes 0 to 3 are the spine, each pod has two upper boxes
     (4 and 5 in the first pod) and two lower ones (6 and 7)."""
@@ -177,13 +189,15 @@ PLANS = {
     "two-answers-mirror": two_answers_mirror,
     "two-answers-mixed": two_answers_mixed,
     "bad-gadget": bad_gadget,
+    "quoting": quoting,
+    "quoting-add-1": quoting_add_1,
     "fat-tree": fat_tree,
     "fat-tree-drop": fat_tree_drop,
     "silent-feed": silent_feed,
 }
 
 # The plans that are counted, too.
-COUNTED = {"chain", "fat-tree", "silent-feed"}
+COUNTED = {"chain", "quoting", "fat-tree", "silent-feed"}
 
 
 def reference(command, data):
@@ -203,7 +217,8 @@ def files_of(name):
         asked = plan + bytes([k]) + cut_by
         fragment = reference("cut", asked)
         files[f"cut{k}"], files[f"cut{k}.out"] = asked, fragment
-        judged[f"part{k}."] = fragment + listed
+        if not fragment.startswith(b"refused "):
+            judged[f"part{k}."] = fragment + listed
     for part, data in judged.items():
         for call in ["judge", "census"] if name in COUNTED else ["judge"]:
             files[part + call], files[f"{part}{call}.out"] = data, reference(call, data)

@@ -9,10 +9,12 @@ mod entries;
 mod layout;
 mod network;
 
+pub use network::{policy_adds_nothing, policy_flag, policy_preference};
+
 pub type Damage = fn(&mut Input, &mut Random);
 
 /// All damages, with names for the tests to tell them by.
-pub const ALL: [(&str, Damage); 39] = [
+pub const ALL: [(&str, Damage); 40] = [
     ("network under 10 bytes", short),
     ("network under its total", under_total),
     ("network's version", |i, r| version(&mut i.network, r)),
@@ -21,6 +23,7 @@ pub const ALL: [(&str, Damage); 39] = [
     ("network's length off", |i, r| length(&mut i.network, r)),
     ("policy's flag", network::policy_flag),
     ("policy's preference", network::policy_preference),
+    ("policy's cost added", network::policy_adds_nothing),
     ("node's order", network::node_order),
     ("node's kind", network::node_kind),
     ("node's route", network::node_route),

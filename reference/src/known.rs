@@ -43,6 +43,26 @@ fn chain_route(cost: u16) -> Option<Route> {
     Some(Route::new(100, cost, 1, 0))
 }
 
+/// Boxes 1 and 2 with wires both ways by policy 0. Nothing starts anywhere.
+pub fn pair(policies: &[Policy]) -> Plan {
+    let mut plan = Plan {
+        policies: policies.to_vec(),
+        nodes: vec![Node::own(1, None), Node::own(2, None)],
+        ..Plan::default()
+    };
+    plan.wire(1, 2, 0);
+    plan.wire(2, 1, 0);
+    plan
+}
+
+/// What each of the pair would hold, quoting the other.
+pub const QUOTED: Route = Route::new(100, 5, 1, 0);
+
+/// The list in which both boxes of the pair hold this route.
+pub fn pair_list(held: Option<Route>) -> Vec<Listed> {
+    vec![(1, held), (2, held)]
+}
+
 /// A box that goes straight to box 1.
 pub const STRAIGHT: Route = Route::new(100, 1, 1, 0);
 /// A box that goes through another, which goes straight.

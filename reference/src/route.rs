@@ -148,13 +148,16 @@ impl Policy {
         }
     }
 
-    /// Flag 0 with a preference would be a second spelling of a policy without one.
+    /// Flag 0 with a preference would be a second spelling of a policy without one. Over wires that
+    /// add 0 two boxes could hold a route that neither started, each by quoting the other.
     pub fn well_formed(bytes: &[u8; POLICY]) -> bool {
-        match bytes[8] {
+        let preference = match bytes[8] {
             0 => bytes[9] == 0 && bytes[10] == 0,
             1 => true,
             _ => false,
-        }
+        };
+        let adds = bytes[11] != 0 || bytes[12] != 0;
+        preference && adds
     }
 }
 

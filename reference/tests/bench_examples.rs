@@ -3,7 +3,7 @@
 mod shared;
 
 use reference::cut::cut;
-use reference::known::{self, AROUND, STRAIGHT};
+use reference::known::{self, AROUND, QUOTED, STRAIGHT};
 use reference::plan::{Listed, Node, Plan};
 use reference::record::check_network;
 use reference::refusal::Refusal;
@@ -33,7 +33,30 @@ fn cost_adds_up_to_65535_and_no_further() {
     let add = |cost, more| carry(&Policy::adding(more), Some(route(100, cost, 1, 0)), TOP);
     assert_eq!(add(65_534, 1), Some(route(100, 65_535, 1, 0)));
     assert_eq!(add(65_535, 1), None);
-    assert_eq!(add(65_535, 0), Some(route(100, 65_535, 1, 0)));
+}
+
+#[test]
+fn cost_65535_add_0_is_a_refused_policy() {
+    let highest = Some(route(100, 65_535, 1, 0));
+    let mut plan = known::pair(&[Policy::adding(0)]);
+    plan.nodes[0].route = highest;
+    let list = known::pair_list(highest);
+    assert_eq!(judge(&plan, &list), "refused 6 10");
+}
+
+#[test]
+fn boxes_that_quote_each_other() {
+    let list = known::pair_list(Some(QUOTED));
+    let line = |added| judge(&known::pair(&[Policy::adding(added)]), &list);
+    assert_eq!(line(0), "refused 6 10");
+    assert_eq!(line(1), "found 31 1 1 100 6 1 0");
+    assert_eq!(line(u16::MAX), "found 31 1 1 none");
+}
+
+#[test]
+fn a_policy_that_no_wire_uses() {
+    let plan = known::pair(&[Policy::adding(1), Policy::adding(0)]);
+    assert_eq!(judge(&plan, &known::pair_list(None)), "refused 6 23");
 }
 
 #[test]

@@ -79,10 +79,36 @@ fn number_6_policy() {
         Ok(()),
         "preference 0"
     );
+    assert_eq!(check(&changed(POLICY + 11, &[0, 0])), refused(6, POLICY));
+    assert_eq!(check(&changed(POLICY + 11, &[1, 0])), Ok(()), "adds 256");
+    let preferring = changed(POLICY + 8, &[1, 0, 9, 0, 0]);
+    assert_eq!(check(&preferring), refused(6, POLICY), "whatever the flag");
     let mut plan = known::chain();
     plan.policies.push(Policy::adding(1));
     let unused = over(plan.record(), POLICY + 13 + 8, &[9]);
     assert_eq!(check(&unused), refused(6, POLICY + 13), "used or not");
+    let unused = over(plan.record(), POLICY + 13 + 11, &[0, 0]);
+    assert_eq!(check(&unused), refused(6, POLICY + 13), "used or not");
+}
+
+#[test]
+fn number_6_names_the_first_policy() {
+    const FLAG: (usize, &[u8]) = (8, &[2]);
+    const PREFERENCE: (usize, &[u8]) = (9, &[0, 1]);
+    const ADDED: (usize, &[u8]) = (11, &[0, 0]);
+    let mut plan = known::chain();
+    plan.policies = vec![Policy::adding(1); 4];
+    for first in [FLAG, PREFERENCE, ADDED] {
+        for second in [FLAG, PREFERENCE, ADDED] {
+            let place = |policy: usize| POLICY + 13 * policy;
+            let ill = over(plan.record(), place(1) + first.0, first.1);
+            let ill = over(ill, place(3) + second.0, second.1);
+            assert_eq!(check(&ill), refused(6, place(1)));
+        }
+    }
+    let ill = over(plan.record(), POLICY + ADDED.0, ADDED.1);
+    let ill = over(ill, POLICY + 4 * 13 + 2, &[2]);
+    assert_eq!(check(&ill), refused(6, POLICY), "before a node's fault");
 }
 
 #[test]

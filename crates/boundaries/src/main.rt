@@ -23,8 +23,8 @@ fn put_head(out: &mut [u8; 40000], total: usize)
     out[4] = 1;
 }
 
-// Stores n ids from 1 on at the heads of parts of a size behind a base.
-fn put_ids(out: &mut [u8; 40000], base: usize, size: usize, n: usize)
+// Stores the numbers 1 to n at the heads of parts of a size behind a base.
+fn put_numbers(out: &mut [u8; 40000], base: usize, size: usize, n: usize)
     requires { ⌜ (base ≤ 1000) × (2 ≤ size) × (size ≤ 27) × (n ≤ 513) ⌝ }
 {
     let mut o = base;
@@ -50,7 +50,7 @@ fn put_edges(out: &mut [u8; 40000], base: usize, n: usize)
     }
 }
 
-// A network of own nodes with ids from 1 on, no routes, and policies that do nothing. Gives its length.
+// A network of own nodes with ids from 1 on, no routes, and policies that add 1, 2, 3 and so on. Gives its length.
 fn put_network(out: &mut [u8; 40000], nodes: usize, edges: usize, policies: usize) -> usize
     requires { ⌜ (nodes ≤ 513) × (edges ≤ 4097) × (policies ≤ 65) ⌝ }
     ensures { λ r. ⌜ r ≤ 40000 ⌝ }
@@ -62,7 +62,8 @@ fn put_network(out: &mut [u8; 40000], nodes: usize, edges: usize, policies: usiz
     put(out, 5, nodes);
     put(out, 7, edges);
     out[9] = policies as u8;
-    put_ids(out, part, 27, nodes);
+    put_numbers(out, 21, 13, policies);
+    put_numbers(out, part, 27, nodes);
     put_edges(out, wires, edges);
     total
 }
@@ -73,7 +74,7 @@ fn put_entries(out: &mut [u8; 40000], size: usize, n: usize, total: usize)
 {
     put_head(out, total);
     put(out, 5, n);
-    put_ids(out, 7, size, n);
+    put_numbers(out, 7, size, n);
 }
 
 // Prints a number and a space.
@@ -130,6 +131,18 @@ fn try_network(nodes: usize, edges: usize, policies: usize)
     print_network(out, total);
 }
 
+// One node and 64 policies, of which one adds 0. There is no edge, so that none is used.
+fn try_added(policy: usize)
+    requires { ⌜ policy ≤ 63 ⌝ }
+{
+    let mut out = [0u8; 40000];
+    let total = put_network(&mut out, 1, 0, 64);
+    put(&mut out, 21 + 13 * policy, 0);
+    io::write_all(STDOUT_FILENO, b"0 added by policy ");
+    print(policy);
+    print_network(out, total);
+}
+
 // The largest network, cut to a length or with bytes behind it.
 fn try_length(length: usize)
     requires { ⌜ length ≤ 40000 ⌝ }
@@ -175,6 +188,8 @@ fn main() {
     try_network(1, 0, 64);
     try_network(1, 0, 65);
     try_network(512, 4096, 64);
+    try_added(0);
+    try_added(63);
     try_length(9);
     try_length(10);
     try_length(LARGEST_NETWORK - 1);

@@ -1,12 +1,13 @@
 -- What a fact at every element, and a test over a list, come to.
 --     all-..        a fact at every element
 --     all, any      tests, to facts and back
-use mathlib.Core.Path.{_≡_, refl, ap₂, _∙_, ap}
+use mathlib.Core.Path.{_≡_, refl, ap₂, _∙_, ap, subst}
 use mathlib.Core.Bool.{Bool, true, false, _||_, false≢true}
 use mathlib.Core.List.{List, [], _∷_, _++_}
-use Prim.Native.Nat.{_<_}
+use mathlib.Core.Option.{some, Option·none-ne-some, Option·some-injective}
+use Prim.Native.Nat.{ℕ, zero, suc, _<_}
 use native.Mathlib.Omega.{arith}
-use lib.ListN.{length}
+use lib.ListN.{length, getElem?}
 use Rattle.lists.proofs.Test.{and-l, and-r, and-i, or-i-l, or-i-r, or-f-l, or-f-r, or-swap}
 use Rattle.lists.specs.All.{All, all, any}
 
@@ -26,6 +27,11 @@ module _ {A : Type 0} where
   pub all-append : (P : A → Type 0) (xs ys : List A) → All P xs → All P ys → All P (xs ++ ys)
   all-append P [] ys h k = k
   all-append P (x ∷ xs) ys h k = (h .0, all-append P xs ys (h .1) k)
+
+  pub all-at : (P : A → Type 0) (xs : List A) (i : ℕ) (x : A) → All P xs → getElem? xs i ≡ some x → P x
+  all-at P [] i x h e = absurd (Option·none-ne-some _ e)
+  all-at P (y ∷ ys) zero x h e = subst P (Option·some-injective _ _ e) (h .0)
+  all-at P (y ∷ ys) (suc i) x h e = all-at P ys i x (h .1) e
 
   -- a fact at every element for every index is, at every element, a fact for every index
   pub all-each : {I : Type 0} (P : I → A → Type 0) (xs : List A) → ((k : I) → All (P k) xs) → All (λ (x : A). (k : I) → P k x) xs

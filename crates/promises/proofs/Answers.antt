@@ -72,7 +72,7 @@ module _ (s : Suite) where
       said : judging.answerOf (s .judge network list) ≡ judgeRecords network list
       said = s .judges network list small list-small ∙ sym (judge-refuses network list)
 
-      verdict-is : (w : Verdict) → judgeRecords network list ≡ judging.answerOf w → s .judge network list ≡ w
+      pub verdict-is : (w : Verdict) → judgeRecords network list ≡ judging.answerOf w → s .judge network list ≡ w
       verdict-is w e = one-verdict _ (s .judge network list) w said (sym e)
 
     pub returns-first : ReturnsFirst s network list
@@ -149,7 +149,7 @@ module _ (network sheet : List ℕ) (k : ℕ) (out : List ℕ) where
 module _ (s : Suite) where
   module _ (network sheet : List ℕ) (k : ℕ) (out : List ℕ) where
     module _ (small : Bytes network) (sheet-small : Bytes sheet) (asked : k < 256) (out-small : Bytes out) where
-      cut-said : cutting.answerOf (s .cut network sheet k out) ≡ cutRecords network sheet k (length out)
+      pub cut-said : cutting.answerOf (s .cut network sheet k out) ≡ cutRecords network sheet k (length out)
       cut-said = (s .cuts network sheet k out small sheet-small asked out-small) .0 ∙ sym (cut-refuses network sheet k (length out))
 
       kept-said : s .after network sheet k out ≡ cutBuffer network sheet k out

@@ -9,6 +9,7 @@ pub mod Fragments
 pub mod Silence
 pub mod SameAnswer
 pub mod Answers
+pub mod Policies
 pub mod Determined
 pub mod Programs
 pub mod Contracts

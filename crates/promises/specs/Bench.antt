@@ -1,4 +1,4 @@
--- The bench examples of document 01 that are marked P: one table, one statement.
+-- The bench examples of document 01 that are marked P, with document 02's of a policy that adds 0: one table, one statement.
 -- Each row has an answer of the definitions, as numbers or as the line that a program prints, and what it must be.
 use mathlib.Core.Path.{_≡_, refl}
 use mathlib.Core.Bool.{cond}
@@ -13,7 +13,7 @@ use Rattle.numbers.specs.Decimal.{decimal, places}
 use Rattle.routes.specs.Carry.{highest, carried, lacks, barred, dear, newTags, crossed}
 use Rattle.routes.specs.Demand.{meets}
 use Rattle.numbers.specs.Zeros.{zeros}
-use Rattle.routes.specs.Form.{fieldsAt, fieldsBytes, routeAt, routeBytes, routeFormed, policyAt, policyBytes, policyFormed}
+use Rattle.routes.specs.Form.{fieldsAt, fieldsBytes, routeAt, routeBytes, routeFormed, policyAt, policyBytes, preferenceFormed, policyFormed}
 use Rattle.routes.specs.Order.{beats, same}
 use Rattle.routes.specs.declared.Policy.{Policy}
 use Rattle.routes.specs.declared.Route.{Route}
@@ -34,12 +34,12 @@ use Rattle.reading.specs.Parts.{demandAt, demandBytes, promiseAt, promiseBytes,
 use Rattle.reading.specs.Whole.{readNetwork, writeNetwork, readSheet, writeSheet, readList, writeList}
 use Rattle.reading.specs.Largest.{largestNetwork, largestEntries}
 use Rattle.lines.specs.Bound.{withinBound}
-use Rattle.lines.specs.Line.{text, spaced, line, routeWords, passLine, foundLine}
+use Rattle.lines.specs.Line.{text, spaced, line, routeWords, passLine, refusedLine, foundLine}
 use Rattle.lines.specs.Split.{firstLength}
 use Rattle.judging.specs.Judging.{judgeRecords}
 use Rattle.judging.specs.Text.{verdictLine, judgeBound, judgeText}
 use Rattle.cutting.specs.Cutting.{cutNetwork, cutRecords}
-use Rattle.promises.specs.BenchNetworks.{held, adds, masks, chainRecord, twoAnswers, listing, splitting}
+use Rattle.promises.specs.BenchNetworks.{held, adds, masks, chainRecord, twoAnswers, listing, splitting, pairRecord, pairListing}
 
 pub record Example : Type 0 where
   pub answer : List ℕ
@@ -82,7 +82,6 @@ bench =
     -- cost
     is (over (adds 1) (held 100 65534 1 0)) (100 ∷ 65535 ∷ 1 ∷ 0 ∷ []) ∷
     is (over (adds 1) (held 100 65535 1 0)) [] ∷
-    is (over (adds 0) (held 100 65535 1 0)) (100 ∷ 65535 ∷ 1 ∷ 0 ∷ []) ∷
     -- tags
     is (over (masks 0 0 3 1) (held 100 5 1 7)) (100 ∷ 5 ∷ 1 ∷ 5 ∷ []) ∷
     is (over (masks 6 0 0 0) (held 100 5 1 5)) [] ∷
@@ -99,13 +98,19 @@ bench =
     is (judgeText (twoAnswers ++ listing (held 100 0 1 0) (held 100 1 1 0) (held 200 2 1 1))) (text "pass 3\n") ∷
     is (judgeText (twoAnswers ++ listing (held 100 0 1 0) (held 200 2 1 1) (held 100 1 1 0))) (text "pass 3\n") ∷
     is (judgeText (twoAnswers ++ listing (held 100 0 1 0) (held 100 1 1 0) (held 100 1 1 0))) (text "found 31 2 2 200 2 1 1\n") ∷
+    -- policies that add 0: 65,535 add 0; two boxes that hold what neither started, each by quoting the other, and what becomes of them where
+    -- the wires add 1; a policy that no wire uses
+    is (judgeText (pairRecord (adds 0 ∷ []) (held 100 65535 1 0) ++ pairListing (held 100 65535 1 0) (held 100 65535 1 0))) (text "refused 6 10\n") ∷
+    is (judgeText (pairRecord (adds 0 ∷ []) None ++ pairListing (held 100 5 1 0) (held 100 5 1 0))) (text "refused 6 10\n") ∷
+    is (judgeText (pairRecord (adds 1 ∷ []) None ++ pairListing (held 100 5 1 0) (held 100 5 1 0))) (text "found 31 1 1 100 6 1 0\n") ∷
+    is (judgeText (pairRecord (adds 1 ∷ adds 0 ∷ []) None ++ pairListing None None)) (text "refused 6 23\n") ∷
     []
 
 -- every answer is the expected one
 pub bench-holds : map (λ (x : Example). x .answer) bench ≡ map (λ (x : Example). x .expected) bench
 unfolding firstBad every least place at filterMap
     u16At u32At u16Bytes u32Bytes zeros decimal places
-    beats same carried lacks barred dear newTags crossed meets fieldsAt fieldsBytes routeAt routeBytes routeFormed policyAt policyBytes policyFormed
+    beats same carried lacks barred dear newTags crossed meets fieldsAt fieldsBytes routeAt routeBytes routeFormed policyAt policyBytes preferenceFormed policyFormed
     number note listed due mapping fault verdictFrom judge leaves feeds fragmentOf cut
     formOf versioned nodeWidth entryWidth entryOffset policyOffset nodeOffset edgeOffset
     entryId fragmentFormed entryFormed entryOk entriesRefusal
@@ -113,5 +118,5 @@ unfolding firstBad every least place at filterMap
     edgeTo edgeFrom edgeKey boxed owned endsFormed edgeFormed edgeOk leftBy inputOk manyParts networkRefusal
     demandAt demandBytes promiseAt promiseBytes boxAt boxBytes wireAt wireBytes sheetEntryAt sheetEntryBytes listEntryAt listEntryBytes
     readNetwork writeNetwork readSheet writeSheet readList writeList largestNetwork largestEntries
-    line spaced routeWords passLine foundLine withinBound firstLength judgeRecords verdictLine judgeBound judgeText cutNetwork cutRecords
+    line spaced routeWords passLine refusedLine foundLine withinBound firstLength judgeRecords verdictLine judgeBound judgeText cutNetwork cutRecords
 bench-holds = refl

@@ -1,8 +1,9 @@
--- The networks, lists and sheets of the bench examples (document 01), as records.
+-- The networks, lists and sheets of the bench examples (document 01; document 02, K1), as records.
 --     held, adds, masks        routes and policies
 --     chainRecord              three boxes in a row
 --     twoAnswers               the network with two settled lists
 --     listing, splitting       lists and sheets for three boxes
+--     pairRecord, pairListing  two boxes, and a list for them
 use mathlib.Core.Bool.{true, false}
 use mathlib.Core.List.{List, [], _∷_}
 use mathlib.Core.Option.{none}
@@ -49,6 +50,18 @@ twoAnswers = writeNetwork version1 (record {
   boxes = plain 1 (held 100 0 1 0) Nothing ∷ plain 2 None Nothing ∷ plain 3 None Nothing ∷ [];
   wires = wire 2 1 0 ∷ wire 2 3 1 ∷ wire 3 1 0 ∷ wire 3 2 1 ∷ [];
 })
+
+-- Two boxes with wires both ways by the first of these policies; box 1 starts with a route or with none.
+abbrev pub pairRecord : List Policy → Route → List ℕ
+pairRecord policies start = writeNetwork version1 (record {
+  policies = policies;
+  boxes = plain 1 start Nothing ∷ plain 2 None Nothing ∷ [];
+  wires = wire 1 2 0 ∷ wire 2 1 0 ∷ [];
+})
+
+-- the list with these routes for boxes 1 and 2
+abbrev pub pairListing : Route → Route → List ℕ
+pairListing a b = writeList version1 (record { id = 1; route = a } ∷ record { id = 2; route = b } ∷ [])
 
 -- the list with these routes for boxes 1, 2 and 3
 abbrev pub listing : Route → Route → Route → List ℕ

@@ -9,6 +9,7 @@ pub mod Silence
 pub mod SameAnswer
 pub mod Suite
 pub mod Answers
+pub mod Policies
 pub mod Determined
 pub mod Programs
 pub mod BenchNetworks

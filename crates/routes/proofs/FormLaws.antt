@@ -1,16 +1,16 @@
 -- Routes and policies as bytes, as the code reads them.
 --     forming, reading, fields-read     routes
---     policies, policy-read             policies
-use mathlib.Core.Path.{_≡_}
-use mathlib.Core.Bool.{Bool, true, false}
+--     preferences, policies, policy-read     policies
+use mathlib.Core.Path.{_≡_, refl, sym}
+use mathlib.Core.Bool.{Bool, true, false, not, false≢true}
 use mathlib.Core.List.{List}
 use Prim.Native.Nat.{ℕ, _+_, _-_}
-use lib.Dec.{eqb}
+use lib.Dec.{eqb, leb}
 use lib.ListN.{getD, set}
 use borrow.Author.Tests.{ne-eqb}
 use Rattle.numbers.specs.BigEndian.{u16At}
 use Rattle.numbers.specs.Zeros.{zeros}
-use Rattle.routes.specs.Form.{fieldsAt, routeAt, routeFormed, policyAt, policyFormed}
+use Rattle.routes.specs.Form.{fieldsAt, routeAt, routeFormed, policyAt, preferenceFormed, policyFormed}
 use Rattle.routes.specs.declared.Fields.{Fields}
 use Rattle.routes.specs.declared.Route.the-variants.{None, Held}
 
@@ -48,17 +48,27 @@ fields-read b o _ _ _ _ e₁ e₂ e₃ e₄ = rw (e₁, e₂, e₃, e₄)
 
 -- policies
 module _ (b : List ℕ) (o : ℕ) where
-  pub policy-unset : (v : ℕ) → getD b (o + 8) 0 ≡ 0 → v ≡ u16At b (o + 9) → eqb v 0 ≡ policyFormed b o
-  unfolding policyFormed
-  policy-unset v p e = rw (p, e)
+  pub preference-unset : (v : ℕ) → getD b o 0 ≡ 0 → v ≡ u16At b (o + 1) → eqb v 0 ≡ preferenceFormed b o
+  unfolding preferenceFormed
+  preference-unset v p e = rw (p, e)
 
-  pub policy-set : getD b (o + 8) 0 ≡ 1 → true ≡ policyFormed b o
-  unfolding policyFormed
-  policy-set p = rw p
+  pub preference-set : getD b o 0 ≡ 1 → true ≡ preferenceFormed b o
+  unfolding preferenceFormed
+  preference-set p = rw p
 
-  pub policy-other : (getD b (o + 8) 0 ≡ 0 → ⊥) → (getD b (o + 8) 0 ≡ 1 → ⊥) → false ≡ policyFormed b o
+  pub preference-other : (getD b o 0 ≡ 0 → ⊥) → (getD b o 0 ≡ 1 → ⊥) → false ≡ preferenceFormed b o
+  unfolding preferenceFormed
+  preference-other p q = rw (ne-eqb _ _ p, ne-eqb _ _ q)
+
+  pub policy-ill : (t : Bool) → t ≡ preferenceFormed b (o + 8) → not t ≡ true → false ≡ policyFormed b o
   unfolding policyFormed
-  policy-other p q = rw (ne-eqb _ _ p, ne-eqb _ _ q)
+  policy-ill true e q = absurd (false≢true q)
+  policy-ill false e q = rw (sym e) refl
+
+  pub policy-adds : (t : Bool) → t ≡ preferenceFormed b (o + 8) → not t ≡ false → (v : ℕ) → v ≡ u16At b (o + 11) → leb 1 v ≡ policyFormed b o
+  unfolding policyFormed
+  policy-adds true e q v h = rw (sym e, h) refl
+  policy-adds false e q v h = absurd (false≢true (sym q))
 
   pub policy-read : (need bar clear set preference added : ℕ)
       → need ≡ u16At b o → bar ≡ u16At b (o + 2) → clear ≡ u16At b (o + 4) → set ≡ u16At b (o + 6) → preference ≡ u16At b (o + 9) → added ≡ u16At b (o + 11)
@@ -66,4 +76,6 @@ module _ (b : List ℕ) (o : ℕ) where
   unfolding policyAt
   policy-read _ _ _ _ _ _ e₁ e₂ e₃ e₄ e₅ e₆ = rw (e₁, e₂, e₃, e₄, e₅, e₆)
 
-pub ruleset policies = (policy-unset, policy-set, policy-other)
+pub ruleset preferences = (preference-unset, preference-set, preference-other)
+
+pub ruleset policies = (policy-ill, policy-adds)

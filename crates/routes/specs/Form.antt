@@ -3,7 +3,7 @@
 use Prim.Native.Nat.{ℕ, _+_, _-_}
 use mathlib.Core.Bool.{Bool, cond, _&&_}
 use mathlib.Core.List.{List, [], _∷_, _++_}
-use lib.Dec.{eqb}
+use lib.Dec.{eqb, leb}
 use lib.ListN.{getD, replicate}
 use Rattle.lists.specs.Rows.{laidRows}
 use Rattle.numbers.specs.BigEndian.{u16At, u16Bytes}
@@ -50,6 +50,11 @@ policyBytes p =
     laidRows u16Bytes (p .need ∷ p .bar ∷ p .clear ∷ p .set ∷ [])
     ++ (cond (p .flag) 1 0 ∷ laidRows u16Bytes (p .preference ∷ p .added ∷ []))
 
--- the flag is 0 and the preference under it is 0, or the flag is 1
+-- a preference flag and the preference behind it: the flag is 0 and the preference is 0, or the flag is 1
+unfoldable pub preferenceFormed : List ℕ → ℕ → Bool
+preferenceFormed b o = cond (eqb (getD b o 0) 0) (eqb (u16At b (o + 1)) 0) (eqb (getD b o 0) 1)
+
+-- a policy's preference is well formed, and it adds at least 1 (document 02, K1), so that two boxes cannot hold a route that neither
+-- started, each by quoting the other
 unfoldable pub policyFormed : List ℕ → ℕ → Bool
-policyFormed b o = cond (eqb (getD b (o + 8) 0) 0) (eqb (u16At b (o + 9)) 0) (eqb (getD b (o + 8) 0) 1)
+policyFormed b o = preferenceFormed b (o + 8) && leb 1 (u16At b (o + 11))

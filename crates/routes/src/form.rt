@@ -2,7 +2,7 @@
 ghost use mathlib.Core.Path.{_≡_};
 ghost use Prim.Native.Nat.{_+_, _≤_};
 ghost use lib.ListN.{length};
-ghost use Rattle.routes.specs.Form.{fieldsAt, routeAt, routeFormed, policyAt, policyFormed};
+ghost use Rattle.routes.specs.Form.{fieldsAt, routeAt, routeFormed, policyAt, preferenceFormed, policyFormed};
 use crate::Fields;
 use crate::Policy;
 use crate::Route;
@@ -44,16 +44,27 @@ pub fn route_at(width: usize, b: &[u8], at: usize) -> Route
     }
 }
 
-// Whether the 13 bytes of b at an offset are a policy: the flag is 0 or 1, and a flag of 0 has preference 0.
+// Whether the 3 bytes of b at an offset are a preference flag with its preference: a flag of 0 has preference 0.
+fn preference_formed(b: &[u8], at: usize) -> bool
+    requires { ⌜ at + 3 ≤ length (now b) ⌝ }
+    ensures { λ r. ⌜ r ≡ preferenceFormed (now (b .entry)) at ⌝ }
+{
+    match b[at] {
+        0 => u16_at(b, at + 1) == 0,
+        1 => true,
+        _ => false,
+    }
+}
+
+// Whether the 13 bytes of b at an offset are a policy: it adds at least 1, so that no route comes back to its box at the cost it had.
 pub fn policy_formed(b: &[u8], at: usize) -> bool
     requires { ⌜ at + 13 ≤ length (now b) ⌝ }
     ensures { λ r. ⌜ r ≡ policyFormed (now (b .entry)) at ⌝ }
 {
-    match b[at + 8] {
-        0 => u16_at(b, at + 9) == 0,
-        1 => true,
-        _ => false,
+    if !preference_formed(b, at + 8) {
+        return false;
     }
+    1 <= u16_at(b, at + 11)
 }
 
 // The policy of the 13 bytes of b at an offset.

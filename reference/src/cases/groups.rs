@@ -8,8 +8,8 @@ use crate::input::Input;
 use crate::known;
 use crate::plan::{list_record, sheet_record};
 use crate::random::Random;
-use crate::route::{Demand, Promise};
-use crate::scene::Scene;
+use crate::route::{Demand, Policy, Promise};
+use crate::scene::{self, Scene, Style};
 
 /// The form of a group's records, how often cases are added, and what adds them.
 type Group = (Form, usize, fn(&mut Stream, Form, &mut Random));
@@ -18,7 +18,7 @@ type Group = (Form, usize, fn(&mut Stream, Form, &mut Random));
 type Maker = fn(Scene, &mut Random) -> Input;
 
 /// A group's place says what it draws its numbers from, so a new one comes last.
-pub const ALL: [Group; 23] = [
+pub const ALL: [Group; 25] = [
     (VERSION_1, 1, known_plans),
     (VERSION_1, 1, |s, f, r| odd_frames(s, &[JUDGE, CUT], f, r)),
     (VERSION_1, 1_000, |s, f, r| small(s, inputs::judge, f, r)),
@@ -48,6 +48,8 @@ pub const ALL: [Group; 23] = [
     (VERSION_1, 1, largest_counted),
     (VERSION_1, 1, |s, f, r| over_size(s, &[CENSUS], f, r)),
     (VERSION_1, 1, |s, _, _| example_plans(s, true)),
+    (VERSION_1, 1, |s, f, _| known_pairs(s, f)),
+    (VERSION_1, 150, ill_policies),
 ];
 
 /// The judge's input or the cutter's.
@@ -103,6 +105,46 @@ fn known_counted(stream: &mut Stream, form: Form) {
             }
         }
     }
+}
+
+/// Two boxes that hold a route which only one of them started, or neither, over wires that add 0, 1
+/// or the most, with or without a second policy, which no wire uses.
+fn known_pairs(stream: &mut Stream, form: Form) {
+    for start in [None, Some(known::QUOTED)] {
+        for added in [0, 1, u16::MAX] {
+            for unused in [&[][..], &[0], &[1]] {
+                let adds: Vec<u16> = [&[added], unused].concat();
+                let policies: Vec<_> = adds.into_iter().map(Policy::adding).collect();
+                let mut plan = known::pair(&policies).of(form);
+                plan.nodes[0].route = start;
+                let list = known::pair_list(Some(known::QUOTED));
+                let sheet = [(1, 0, list[0].1), (2, 1, list[1].1)];
+                stream.add_parts(&Input::judge(&plan, &list));
+                stream.add_parts(&Input::census(&plan, &list));
+                stream.add_parts(&Input::cut(&plan, 1, &sheet));
+            }
+        }
+    }
+}
+
+/// Up to three ill-formed policies, used or not, to see which is named.
+fn ill_policies(stream: &mut Stream, form: Form, random: &mut Random) {
+    let mut scene = inputs::small(form, random);
+    for _ in 0..random.below(4) {
+        let unused = scene::policy(Style::Steady, random);
+        scene.plan.policies.push(unused);
+    }
+    let make = *random.pick(&[inputs::judge, inputs::cut, counted::census]);
+    let mut input = make(scene, random);
+    for _ in 0..random.within(1, 3) {
+        let damage = *random.pick(&[
+            damage::policy_flag,
+            damage::policy_preference,
+            damage::policy_adds_nothing,
+        ]);
+        damage(&mut input, random);
+    }
+    stream.add_parts(&input);
 }
 
 /// Inputs of a few bytes, and records where others belong.

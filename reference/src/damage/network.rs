@@ -59,6 +59,12 @@ pub fn policy_preference(input: &mut Input, random: &mut Random) {
     }
 }
 
+pub fn policy_adds_nothing(input: &mut Input, random: &mut Random) {
+    if let Some(policy) = some_policy(input, random) {
+        set(&mut input.network, policy + 11, &[0, 0]);
+    }
+}
+
 /// Gives a node the id of the one before it, or a lower one.
 pub fn node_order(input: &mut Input, random: &mut Random) {
     if let Some(layout) = Layout::of(input).filter(|layout| layout.nodes > 1) {

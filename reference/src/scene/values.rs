@@ -23,7 +23,7 @@ pub fn policy(style: Style, random: &mut Random) -> Policy {
             policy.preference = random.one_in(6).then_some(50);
         }
         Style::Preferring => {
-            policy.cost = random.below(4) as u16;
+            policy.cost = random.below(4).max(1) as u16;
             policy.bar = tag(random);
             policy.set = tag(random);
             policy.preference = random
@@ -36,7 +36,7 @@ pub fn policy(style: Style, random: &mut Random) -> Policy {
             policy.clear = extreme(random);
             policy.set = extreme(random) & extreme(random);
             policy.preference = random.one_in(3).then_some(extreme(random));
-            policy.cost = extreme(random) >> random.below(16);
+            policy.cost = (extreme(random) >> random.below(16)).max(1);
         }
     }
     policy

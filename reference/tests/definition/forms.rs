@@ -131,7 +131,7 @@ fn route_ill(route: &[u8]) -> bool {
 }
 
 fn policy_ill(policy: &[u8]) -> bool {
-    policy[8] > 1 || policy[8] == 0 && word(policy, 9) != 0
+    policy[8] > 1 || policy[8] == 0 && word(policy, 9) != 0 || word(policy, 11) == 0
 }
 
 fn node_ill(node: &[u8], form: Form) -> bool {

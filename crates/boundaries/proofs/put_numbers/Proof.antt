@@ -1,8 +1,8 @@
 -- The offset stays within the room of as many parts as are stored.
 use Prim.Native.Nat.{_+_, _-_, _*_, _≤_}
 use borrow.Author.Needs.{needs}
-use Rattle.boundaries.proofs.put_ids.Statement.{statement}
-use Rattle.boundaries.proofs.put_ids.Tie as tie
+use Rattle.boundaries.proofs.put_numbers.Statement.{statement}
+use Rattle.boundaries.proofs.put_numbers.Tie as tie
 
 abbrev Inv-loop : tie.InvT-loop
 Inv-loop out₀ base size n o₀ i₀ out o i = (i ≤ n) × (o ≤ base + 27 * i)
@@ -31,7 +31,7 @@ loop-again c = search needs
 returns : tie.Need-returns Inv-loop μ-loop
 returns c = search needs
 
-pub put-ids-spec : {M : Type 1} → statement M
-put-ids-spec =
+pub put-numbers-spec : {M : Type 1} → statement M
+put-numbers-spec =
     tie.close
     (tie.spec Inv-loop μ-loop loop-holds add-i put-requires add-o loop-less loop-again returns)
