@@ -9,7 +9,6 @@ use native.Mathlib.Omega.{arith}
 use lib.ListN.{length, getElem?}
 use borrow.Author.Tests.{lt-ltb}
 use Rattle.lists.specs.Answer.{refused}
-use Rattle.lists.specs.First.{firstBad}
 use Rattle.lists.proofs.All.{all-at}
 use Rattle.lists.proofs.First.{first-all, first-fails}
 use Rattle.lists.proofs.Rows.{all-rows}
@@ -20,9 +19,10 @@ use Rattle.routes.specs.declared.Policy.{Policy}
 use Rattle.routes.specs.declared.Route.the-variants.{None, Held}
 use Rattle.routes.proofs.Carried.{carry-dearer, none-held}
 use Rattle.routes.proofs.PolicyCodec.{formed-adds}
+use Rattle.layout.specs.Form.{formOf}
 use Rattle.layout.specs.Layout.{policyCount, policyOffset}
 use Rattle.nodes.specs.Policy.{policyOk}
-use Rattle.records.specs.Network.{networkRefusal}
+use Rattle.records.specs.Network.{badPolicy, networkRefusal}
 use Rattle.records.proofs.Fine.{network-fine}
 use Rattle.reading.specs.Whole.{readNetwork, networkOf}
 use Rattle.judging.specs.Judging.{judgeRecords}
@@ -42,7 +42,7 @@ module _ (network : List ℕ) where
 
   -- the first ill-formed policy
   abbrev j : ℕ
-  j = firstBad (policyOk network) (policyCount network)
+  j = badPolicy (formOf network) network
 
   -- it is no later than one that adds 0
   not-behind : (i : ℕ) → addedBy network i ≡ 0 → j ≤ i
