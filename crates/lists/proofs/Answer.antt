@@ -4,15 +4,16 @@
 --     then-given, then-refused         one call upon another's answer, taken apart
 --     row-given, row-refused           a row above an answer
 --     first-append, first-then         two tables one after the other; a call on what a table lets through
---     NoneApplies, first-given, ..     an answer that was given met no row, and back
+--     NoneApplies, first-given, ..     an answer that was given met no row, and back; first-behind for the first rows alone
 --     first-meets                      what holds of every row's answer
 use mathlib.Core.Path.{_≡_, refl, sym, ap, _∙_}
 use mathlib.Core.Bool.{Bool, true, false, cond, false≢true}
 use mathlib.Core.Logic.{_⊎_, inl, inr}
 use mathlib.Core.Option.{Option, none, some}
 use mathlib.Core.List.{List, [], _∷_, _++_, map}
-use Prim.Native.Nat.{ℕ}
+use Prim.Native.Nat.{ℕ, zero, suc}
 use native.Mathlib.Omega.{arith}
+use lib.ListN.{take, drop}
 use Rattle.lists.specs.All.{all}
 use Rattle.lists.proofs.Test.{and-l, and-r}
 use Rattle.lists.specs.Answer.{Answer, given, refused, andThen, isSome, row, NoneApplies}
@@ -87,6 +88,12 @@ module _ {A : Type 0} where
   pub none-first : (rows : List (Bool × Answer A)) (below : Answer A) → NoneApplies rows → firstOf rows below ≡ below
   none-first [] below h = refl
   none-first (r ∷ rows) below h = rw (h .0) (none-first rows below (h .1))
+
+  -- where none of the first k rows applies, those behind them decide
+  pub first-behind : (k : ℕ) (rows : List (Bool × Answer A)) (below : Answer A) → NoneApplies (take k rows) → firstOf rows below ≡ firstOf (drop k rows) below
+  first-behind zero rows below h = refl
+  first-behind (suc k) [] below h = refl
+  first-behind (suc k) (r ∷ rows) below h = rw (h .0) (first-behind k rows below (h .1))
 
   -- a call on what a table lets through
   pub first-then : {B : Type 0} (rows : List (Bool × Answer A)) (below : Answer A) (f : A → Answer B)

@@ -1,17 +1,18 @@
 -- The first failing place.
---     first-none, first-here     its value, from what is known of the places
---     first-all, first-fails     what its value tells
---     every-..                   whether it fails nowhere, and where it does not
---     Passed, passed-..          what a loop knows at place i, and its two exits
+--     first-none, first-here                   its value, from what is known of the places
+--     first-all, first-fails, first-before     what its value tells
+--     every-..                                 whether it fails nowhere, and where it does not
+--     Passed, passed-..                        what a loop knows at place i, and its two exits
 use Prim.Native.Nat.{ℕ, zero, suc, _+_, _<_, _≤_, zero-le, suc-le-suc}
 use native.Mathlib.Nat.{le-of-suc-le-suc, not-suc-le-zero}
 use native.Mathlib.Omega.{arith}
-use mathlib.Core.Bool.{Bool, true, false, cond, _&&_}
-use mathlib.Core.Path.{_≡_, refl, ap, sym}
+use mathlib.Core.Bool.{Bool, true, false, cond, _&&_, false≢true}
+use mathlib.Core.Logic.{⊎-elim}
+use mathlib.Core.Path.{_≡_, refl, ap, sym, _∙_}
 use lib.Dec.{eqb}
 use borrow.Author.Count.{below-more}
 use borrow.Author.Tests.{eq-eqb, ne-eqb, eqb-true, eqb-false}
-use Rattle.lists.proofs.Test.{and-l, and-r, and-i, same-test}
+use Rattle.lists.proofs.Test.{and-l, and-r, and-i, same-test, le-or-lt}
 use Rattle.lists.specs.First.{every, firstBad}
 
 pub first-none : (ok : ℕ → Bool) (n : ℕ) → ((k : ℕ) → k < n → ok k ≡ true) → firstBad ok n ≡ n
@@ -58,6 +59,11 @@ first-fails ok (suc n) l = go (ok 0) refl (first-fails (λ k. ok (suc k)) n) l
         → cond t (suc (firstBad (λ k. ok (suc k)) n)) 0 < suc n → ok (cond t (suc (firstBad (λ k. ok (suc k)) n)) 0) ≡ false
     go true e ih l = ih (le-of-suc-le-suc l)
     go false e ih l = e
+
+-- it is no later than a place at which the test fails
+pub first-before : (ok : ℕ → Bool) (n i : ℕ) → ok i ≡ false → firstBad ok n ≤ i
+first-before ok n i e =
+    ⊎-elim (λ (l : firstBad ok n ≤ i). l) (λ (l : i < firstBad ok n). absurd (false≢true (sym e ∙ first-all ok n i l))) (le-or-lt (firstBad ok n) i)
 
 pub every-yes : (ok : ℕ → Bool) (n : ℕ) → ((k : ℕ) → k < n → ok k ≡ true) → every ok n ≡ true
 unfolding every

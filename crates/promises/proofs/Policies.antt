@@ -1,30 +1,22 @@
--- Every policy adds at least 1, proved: a well-formed policy adds, so one that adds 0 is ill formed, and the first that is gives the place.
-use mathlib.Core.Path.{_≡_, refl, sym}
-use mathlib.Core.Bool.{true}
+-- Every policy adds at least 1, proved: one that adds 0 is ill formed, and the first that is ill formed gives the place.
+use mathlib.Core.Path.{_≡_, refl, sym, _∙_}
+use mathlib.Core.Bool.{false}
 use mathlib.Core.List.{List}
-use mathlib.Core.Logic.{⊎-elim}
-use mathlib.Core.Option.{Option, none, some, Option·map, Option·getD}
-use Prim.Native.Nat.{ℕ, _≤_, _<_}
+use Prim.Native.Nat.{ℕ, _<_}
 use native.Mathlib.Omega.{arith}
-use lib.ListN.{length, getElem?}
-use borrow.Author.Tests.{lt-ltb}
-use Rattle.lists.specs.Answer.{refused}
-use Rattle.lists.proofs.All.{all-at}
-use Rattle.lists.proofs.First.{first-all, first-fails}
-use Rattle.lists.proofs.Rows.{all-rows}
-use Rattle.lists.proofs.Test.{le-or-lt}
-use Rattle.routes.specs.Carry.{highest, carried}
-use Rattle.routes.specs.Form.{policyAt}
-use Rattle.routes.specs.declared.Policy.{Policy}
-use Rattle.routes.specs.declared.Route.the-variants.{None, Held}
-use Rattle.routes.proofs.Carried.{carry-dearer, none-held}
-use Rattle.routes.proofs.PolicyCodec.{formed-adds}
+use lib.ListN.{length}
+use Rattle.lists.specs.Answer.{given, refused}
+use Rattle.lists.proofs.Answer.{first-behind}
+use Rattle.lists.proofs.First.{first-all, first-fails, first-before}
+use Rattle.routes.proofs.PolicyCodec.{zero-ill}
 use Rattle.layout.specs.Form.{formOf}
 use Rattle.layout.specs.Layout.{policyCount, policyOffset}
 use Rattle.nodes.specs.Policy.{policyOk}
-use Rattle.records.specs.Network.{badPolicy, networkRefusal}
+use Rattle.records.specs.Network.{badPolicy, networkTable, networkFrom, networkRefusal}
 use Rattle.records.proofs.Fine.{network-fine}
-use Rattle.reading.specs.Whole.{readNetwork, networkOf}
+use Rattle.records.proofs.NetworkRefusals.{parts-policy}
+use Rattle.reading.specs.Whole.{networkOf}
+use Rattle.reading.proofs.Adding.{fine-adds, wire-dearer}
 use Rattle.judging.specs.Judging.{judgeRecords}
 use Rattle.judging.specs.declared.Verdict.the-variants as verdict
 use Rattle.cutting.specs.Cutting.{cutNetwork, cutRecords}
@@ -35,35 +27,25 @@ use Rattle.promises.specs.Suite.{Suite}
 use Rattle.promises.proofs.Answers.{verdict-is, cut-said, keeps-buffer}
 
 module _ (network : List ℕ) where
-  -- a policy that is well formed adds at least 1
-  adds : (i : ℕ) → policyOk network i ≡ true → 1 ≤ addedBy network i
-  unfolding policyOk policyAt
-  adds i h = formed-adds network (policyOffset i) h
-
   -- the first ill-formed policy
   abbrev j : ℕ
   j = badPolicy (formOf network) network
 
-  -- it is no later than one that adds 0
-  not-behind : (i : ℕ) → addedBy network i ≡ 0 → j ≤ i
-  not-behind i e =
-      ⊎-elim
-      (λ (l : j ≤ i). l)
-      (λ (l : i < j). let one = adds i (first-all (policyOk network) (policyCount network) i l) in absurd (omega arith))
-      (le-or-lt j i)
+  ill : (i : ℕ) → addedBy network i ≡ 0 → policyOk network i ≡ false
+  unfolding policyOk
+  ill i e = zero-ill network (policyOffset i) e
 
-  -- behind the six rows of 1 to 5 it decides
+  -- behind the rows of 1 to 5 it decides
   six : Framed network → j < policyCount network → networkRefusal network ≡ refused 6 (policyOffset j)
-  unfolding networkRefusal
+  unfolding networkRefusal networkFrom
   six framed l =
-      let counts = framed .1 .1 in
-      let lengths = counts .1 .1 in
-      rw (framed .0, framed .1 .0, counts .0, counts .1 .0, lengths .0, lengths .1 .0, lt-ltb j (policyCount network) l) refl
+      first-behind 6 (networkTable (formOf network) network) (given (formOf network)) framed
+      ∙ sym (parts-policy (formOf network) network (policyCount network) j refl refl (policyOffset j) l refl)
 
   pub zero-refused : ZeroRefused network
   unfolding judgeRecords cutNetwork cutRecords
   zero-refused framed i l e =
-      let early = not-behind i e in
+      let early = first-before (policyOk network) (policyCount network) i (ill i e) in
       let within : j < policyCount network = omega arith in
       let refusal = six framed within in (
         j,
@@ -75,29 +57,21 @@ module _ (network : List ℕ) where
       )
 
   pub policies-add : PoliciesAdd network
-  unfolding readNetwork policyOffset
-  policies-add sound =
-      all-rows (policyAt network) 13 (λ (p : Policy). 1 ≤ p .added) 10 (policyCount network) (λ i l. adds i (network-fine network sound .policies i l))
+  policies-add sound = fine-adds (formOf network) network (network-fine network sound)
 
   pub wires-cost : WiresCost network
-  wires-cost sound w f g = go (getElem? (networkOf network .policies) (w .policy)) refl
-    where
-      go : (o : Option Policy) → getElem? (networkOf network .policies) (w .policy) ≡ o
-          → Option·getD (Option·map (λ (p : Policy). carried highest p (Held f)) o) None ≡ Held g → f .cost < g .cost
-      go none q e = absurd (none-held e)
-      go (some p) q e =
-          carry-dearer highest p f g (all-at (λ (p : Policy). 1 ≤ p .added) (networkOf network .policies) (w .policy) p (policies-add sound) q) e
+  wires-cost sound top = wire-dearer top (networkOf network) (policies-add sound)
 
   pub returns-ill-policy : (s : Suite) → ReturnsIllPolicy network s
   returns-ill-policy s small framed i l e =
       let z = zero-refused framed i l e in
-      let ill = illPolicy (z .0) in (
+      let refusal = illPolicy (z .0) in (
         z .0,
         z .1,
         z .2,
-        λ list list-small. verdict-is s network list small list-small (verdict.Refused ill) (z .4 list),
+        λ list list-small. verdict-is s network list small list-small (verdict.Refused refusal) (z .4 list),
         λ sheet k out sheet-small asked out-small.
-            let c : s .cut network sheet k out ≡ answer.Refused ill =
-            one-cut _ (s .cut network sheet k out) (answer.Refused ill) (cut-said s network sheet k out small sheet-small asked out-small) (sym (z .5 sheet k (length out))) in
-            (c, keeps-buffer s network sheet k out small sheet-small asked out-small ill c),
+            let c : s .cut network sheet k out ≡ answer.Refused refusal =
+            one-cut _ (s .cut network sheet k out) (answer.Refused refusal) (cut-said s network sheet k out small sheet-small asked out-small) (sym (z .5 sheet k (length out))) in
+            (c, keeps-buffer s network sheet k out small sheet-small asked out-small refusal c),
       )

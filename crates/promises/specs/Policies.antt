@@ -8,12 +8,10 @@ use mathlib.Core.Bool.{true, false}
 use mathlib.Core.List.{List}
 use Prim.Native.Nat.{ℕ, _≤_, _<_}
 use lib.ListN.{take}
-use Rattle.lists.specs.All.{All}
 use Rattle.lists.specs.Answer.{refused, NoneApplies}
 use Rattle.lists.specs.Bytes.{Bytes}
 use Rattle.routes.specs.Form.{policyAt}
 use Rattle.routes.specs.declared.Fields.{Fields}
-use Rattle.routes.specs.declared.Policy.{Policy}
 use Rattle.routes.specs.declared.Route.the-variants.{Held}
 use Rattle.networks.specs.Network.{Wire}
 use Rattle.networks.specs.Solution.{trans}
@@ -24,12 +22,13 @@ use Rattle.layout.specs.declared.Form.{Form}
 use Rattle.layout.specs.declared.Refusal.{Refusal}
 use Rattle.nodes.specs.Policy.{policyOk}
 use Rattle.records.specs.Network.{networkTable, networkRefusal, SoundRecord}
+use Rattle.reading.specs.Adding.{Adding}
+use Rattle.reading.specs.House.{house}
 use Rattle.reading.specs.Whole.{networkOf}
 use Rattle.judging.specs.Judging.{judgeRecords}
 use Rattle.judging.specs.declared.Verdict.the-variants as verdict
 use Rattle.cutting.specs.Cutting.{cutRecords}
 use Rattle.cutting.specs.declared.CutAnswer.the-variants as answer
-use Rattle.promises.specs.Calls.{house1}
 use Rattle.promises.specs.Suite.{Suite}
 
 -- the refusal of the j-th policy
@@ -60,11 +59,11 @@ module _ (network : List ℕ) where
 
   -- Every policy of a sound network adds at least 1.
   abbrev pub PoliciesAdd : Type 0
-  PoliciesAdd = SoundRecord network → All (λ (p : Policy). 1 ≤ p .added) (networkOf network .policies)
+  PoliciesAdd = SoundRecord network → Adding (networkOf network)
 
-  -- A route that comes over a wire of a sound network costs more than it did before.
+  -- A route that comes over a wire of a sound network costs more than it did before, whatever the highest cost that a wire may give.
   abbrev pub WiresCost : Type 0
-  WiresCost = SoundRecord network → (w : Wire) (f g : Fields) → trans house1 (networkOf network) w (Held f) ≡ Held g → f .cost < g .cost
+  WiresCost = SoundRecord network → (top : ℕ) (w : Wire) (f g : Fields) → trans (house top) (networkOf network) w (Held f) ≡ Held g → f .cost < g .cost
 
   -- `ZeroRefused` of what a suite returns; the cutter leaves the buffer as it was.
   abbrev pub ReturnsIllPolicy : Suite → Type 0

@@ -16,3 +16,4 @@ pub mod Bridges
 pub mod Lowest
 -- The house's routes.
 pub mod HouseRoutes
+pub mod Adding

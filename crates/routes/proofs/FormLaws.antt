@@ -1,5 +1,5 @@
 -- Routes and policies as bytes, as the code reads them.
---     forming, reading, fields-read     routes
+--     forming, reading, fields-read          routes
 --     preferences, policies, policy-read     policies
 use mathlib.Core.Path.{_≡_, refl, sym}
 use mathlib.Core.Bool.{Bool, true, false, not, false≢true}

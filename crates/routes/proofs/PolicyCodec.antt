@@ -84,13 +84,22 @@ policy-formed b o h =
 
 -- what a formed policy is: its preference is formed, and it adds at least 1
 module _ (b : List ℕ) (o : ℕ) (h : policyFormed b o ≡ true) where
-  pub formed-preference : preferenceFormed b (o + 8) ≡ true
+  formed-preference : preferenceFormed b (o + 8) ≡ true
   unfolding policyFormed
   formed-preference = and-l (preferenceFormed b (o + 8)) (leb 1 (u16At b (o + 11))) h
 
   pub formed-adds : 1 ≤ u16At b (o + 11)
   unfolding policyFormed
   formed-adds = leb-true 1 (u16At b (o + 11)) (and-r (preferenceFormed b (o + 8)) (leb 1 (u16At b (o + 11))) h)
+
+-- one that adds 0 is ill formed
+pub zero-ill : (b : List ℕ) (o : ℕ) → policyAt b o .added ≡ 0 → policyFormed b o ≡ false
+unfolding policyAt
+zero-ill b o e = go (policyFormed b o) refl
+  where
+    go : (t : Bool) → policyFormed b o ≡ t → t ≡ false
+    go true q = let one = formed-adds b o q in absurd (omega arith)
+    go false q = refl
 
 -- the flag's byte
 flag-byte : (b : List ℕ) (o : ℕ) → preferenceFormed b o ≡ true → cond (eqb (getD b o 0) 1) 1 0 ≡ getD b o 0

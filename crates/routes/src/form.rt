@@ -56,7 +56,7 @@ fn preference_formed(b: &[u8], at: usize) -> bool
     }
 }
 
-// Whether the 13 bytes of b at an offset are a policy: it adds at least 1, so that no route comes back to its box at the cost it had.
+// Whether the 13 bytes of b at an offset are a policy: its preference is well formed, and it adds at least 1.
 pub fn policy_formed(b: &[u8], at: usize) -> bool
     requires { ⌜ at + 13 ≤ length (now b) ⌝ }
     ensures { λ r. ⌜ r ≡ policyFormed (now (b .entry)) at ⌝ }
