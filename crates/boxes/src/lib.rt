@@ -6,8 +6,10 @@ pub use own::fault_at;
 pub use own::own_box;
 use routes::Route;
 pub use wires::first_wire;
+pub use wires::offer;
 pub use wires::over_wire;
 pub use wires::wire_behind;
+pub use wires::wire_into;
 
 // What is wrong at one box, first the due route, then the promise, then the demand.
 pub enum Fault {

@@ -3,15 +3,20 @@ ghost use mathlib.Core.Path.{_≡_};
 ghost use Prim.Native.Nat.{_+_};
 ghost use Rattle.lists.specs.Best.{best};
 ghost use Rattle.routes.specs.Order.{beats};
-ghost use Rattle.layout.specs.Layout.{edgePart};
+ghost use Rattle.layout.specs.Layout.{edgePart, edgeOffset};
 ghost use Rattle.records.specs.Checked.{CheckedNetwork};
 ghost use Rattle.preparing.specs.Prepared.{Prepared};
-ghost use Rattle.boxes.specs.Wires.{WireAt, WireEnd, nextFrom, offerAt};
+ghost use Rattle.boxes.specs.Wires.{WireAt, WireEnd, nextFrom, rowInto, offerAt};
 use crate::NextWire;
+use layout::EDGE_WIDTH;
+use layout::EDGES_FIELD;
 use layout::Form;
+use layout::NODES_FIELD;
 use layout::ROWS;
 use layout::edge_offset;
+use layout::node_offset;
 use layout::policy_offset;
+use numbers::stride;
 use numbers::u16_at;
 use numbers::wide;
 use numbers::wide16;
@@ -53,8 +58,35 @@ pub fn wire_behind(form: Form, network: &[u8], wire: NextWire) -> NextWire
     wire_from(form, network, wire.at + 5)
 }
 
+// The row of the first wire to a box with this id or a higher one, found by halving.
+fn row_into(form: Form, network: &[u8], id: u16) -> usize
+    requires { ⌜ CheckedNetwork form (now network) ⌝ }
+    ensures { λ r. ⌜ r ≡ rowInto form (now (network .entry)) id ⌝ }
+{
+    let base = node_offset(form, network, wide16(u16_at(network, NODES_FIELD)));
+    let mut lo = 0;
+    let mut hi = wide16(u16_at(network, EDGES_FIELD));
+    while lo < hi {
+        let mid = lo + (hi - lo) / 2;
+        if u16_at(network, stride(base, EDGE_WIDTH, mid)) < id {
+            lo = mid + 1;
+        } else {
+            hi = mid;
+        }
+    }
+    lo
+}
+
+// The first wire to a box with this id or a higher one: the wires into the box are those from there on that lead to it.
+pub fn wire_into(form: Form, network: &[u8], id: u16) -> NextWire
+    requires { ⌜ CheckedNetwork form (now network) ⌝ }
+    ensures { λ r. ⌜ r ≡ nextFrom (now (network .entry)) (edgeOffset form (now (network .entry)) (rowInto form (now (network .entry)) id)) ⌝ }
+{
+    wire_from(form, network, edge_offset(form, network, row_into(form, network, id)))
+}
+
 // What the wire at an offset gives the box that it leads to.
-fn offer<'a>(
+pub fn offer<'a>(
     form: Form,
     network: &'a [u8],
     list: &'a [u8],

@@ -159,7 +159,7 @@ fn cut_entered(
     let n = u16_at(network, NODES_FIELD) as usize;
     if first_inside(form, network, fragments, k, n) == n {
         return CutAnswer::Refused(Refusal {
-            class: Class::NoFragment,
+            class: Class::NoSuchOwn,
             place: wide(k),
         });
     }

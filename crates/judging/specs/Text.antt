@@ -21,6 +21,10 @@ verdictLine (refused number place) = refusedLine number place
 unfoldable pub judgeBound : ℕ
 judgeBound = largestNetwork widest + largestEntries widest listLead
 
+-- the longest input of a program that names a box: two bytes more
+unfoldable pub namingBound : ℕ
+namingBound = judgeBound + 2
+
 -- The first record is the network, and the rest is the list.
 unfoldable pub judgeText : List ℕ → List ℕ
 judgeText input = withinBound judgeBound input (verdictLine (judgeRecords (firstRecord input) (restOf input)))

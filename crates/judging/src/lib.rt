@@ -9,8 +9,10 @@ pub use first_fault::search;
 use layout::Refusal;
 use routes::Route;
 pub use text::LONGEST;
+pub use text::LONGEST_NAMING;
 pub use text::judge_bytes;
 pub use text::longest_input;
+pub use text::longest_naming;
 pub use text::verdict_line;
 
 // What is named of a box with a fault: the judged count includes it.

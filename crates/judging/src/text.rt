@@ -4,7 +4,7 @@ ghost use lib.ListN.{length};
 ghost use Rattle.lists.specs.Laid.{placed};
 ghost use Rattle.lines.specs.Line.{foundLine, lineBytes};
 ghost use Rattle.judging.specs.Answers.{answerOf};
-ghost use Rattle.judging.specs.Text.{verdictLine, judgeBound, judgeText};
+ghost use Rattle.judging.specs.Text.{verdictLine, judgeBound, namingBound, judgeText};
 use crate::Finding;
 use crate::Verdict;
 use crate::entry::judge;
@@ -20,11 +20,20 @@ use numbers::wide16;
 // The longest input: the largest network and the largest route list.
 pub const LONGEST: usize = LARGEST_NETWORK + LARGEST_LIST;
 
-// The same, held to its definition.
+// The longest input of a program that names a box, by two bytes behind the network.
+pub const LONGEST_NAMING: usize = LONGEST + 2;
+
+// The same two, held to their definitions.
 pub fn longest_input() -> usize
     ensures { λ r. ⌜ r ≡ judgeBound ⌝ }
 {
     LONGEST
+}
+
+pub fn longest_naming() -> usize
+    ensures { λ r. ⌜ r ≡ namingBound ⌝ }
+{
+    LONGEST_NAMING
 }
 
 // The line of a finding with this number.

@@ -9,7 +9,7 @@ use Rattle.layout.specs.Refusals.{numberOf, checkAnswer}
 use Rattle.layout.specs.declared.Check.{Check}
 use Rattle.layout.specs.declared.Check.the-variants.{Fine, Refused}
 use Rattle.layout.specs.declared.Class.{Class}
-use Rattle.layout.specs.declared.Class.the-variants.{Short, Version, Counts, Length, Behind, IllPolicy, IllNode, NoOwn, IllEdge, NoEdgeOut, EntriesShort, EntriesVersion, EntriesCount, EntriesLength, EntriesBehind, IllEntry, NoEntry, NoFragment, NoteDiffers, NoRoom}
+use Rattle.layout.specs.declared.Class.the-variants.{Short, Version, Counts, Length, Behind, IllPolicy, IllNode, NoOwn, IllEdge, NoEdgeOut, EntriesShort, EntriesVersion, EntriesCount, EntriesLength, EntriesBehind, IllEntry, NoEntry, NoSuchOwn, NoteDiffers, NoRoom}
 use Rattle.layout.specs.declared.Form.{Form}
 use Rattle.layout.specs.declared.Refusal.{Refusal}
 
@@ -34,7 +34,7 @@ classOf n =
     (eqb n 15, EntriesBehind) ∷
     (eqb n 16, IllEntry) ∷
     (eqb n 17, NoEntry) ∷
-    (eqb n 18, NoFragment) ∷
+    (eqb n 18, NoSuchOwn) ∷
     (eqb n 19, NoteDiffers) ∷
     [])
     NoRoom
@@ -58,7 +58,7 @@ number-class EntriesLength = refl
 number-class EntriesBehind = refl
 number-class IllEntry = refl
 number-class NoEntry = refl
-number-class NoFragment = refl
+number-class NoSuchOwn = refl
 number-class NoteDiffers = refl
 number-class NoRoom = refl
 

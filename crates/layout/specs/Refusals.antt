@@ -4,7 +4,7 @@ use Rattle.lists.specs.Answer.{Answer, given, refused}
 use Rattle.layout.specs.declared.Check.{Check}
 use Rattle.layout.specs.declared.Check.the-variants.{Fine, Refused}
 use Rattle.layout.specs.declared.Class.{Class}
-use Rattle.layout.specs.declared.Class.the-variants.{Short, Version, Counts, Length, Behind, IllPolicy, IllNode, NoOwn, IllEdge, NoEdgeOut, EntriesShort, EntriesVersion, EntriesCount, EntriesLength, EntriesBehind, IllEntry, NoEntry, NoFragment, NoteDiffers, NoRoom}
+use Rattle.layout.specs.declared.Class.the-variants.{Short, Version, Counts, Length, Behind, IllPolicy, IllNode, NoOwn, IllEdge, NoEdgeOut, EntriesShort, EntriesVersion, EntriesCount, EntriesLength, EntriesBehind, IllEntry, NoEntry, NoSuchOwn, NoteDiffers, NoRoom}
 use Rattle.layout.specs.declared.Form.{Form}
 use Rattle.layout.specs.declared.Refusal.{Refusal}
 
@@ -27,7 +27,7 @@ numberOf EntriesLength = 14
 numberOf EntriesBehind = 15
 numberOf IllEntry = 16
 numberOf NoEntry = 17
-numberOf NoFragment = 18
+numberOf NoSuchOwn = 18
 numberOf NoteDiffers = 19
 numberOf NoRoom = 20
 

@@ -61,7 +61,8 @@ pub enum Class {
     EntriesBehind,
     IllEntry,
     NoEntry,
-    NoFragment,
+    // no own box has the fragment or the id that is asked for
+    NoSuchOwn,
     NoteDiffers,
     NoRoom,
 }

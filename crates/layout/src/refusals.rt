@@ -25,7 +25,7 @@ pub fn number_of(class: Class) -> u8
         Class::EntriesBehind => 15,
         Class::IllEntry => 16,
         Class::NoEntry => 17,
-        Class::NoFragment => 18,
+        Class::NoSuchOwn => 18,
         Class::NoteDiffers => 19,
         Class::NoRoom => 20,
     }

@@ -41,6 +41,10 @@ refusedLine number place = line (text "refused") (decimal number ∷ decimal pla
 unfoldable pub foundLine : ℕ → ℕ → ℕ → Route → List ℕ
 foundLine number node judged route = line (text "found") (decimal number ∷ decimal node ∷ decimal judged ∷ routeWords route)
 
+-- a box's id and its route
+unfoldable pub boxLine : ℕ → Route → List ℕ
+boxLine id route = line (decimal id) (routeWords route)
+
 -- a line, by its kind
 unfoldable pub lineBytes : Line → List ℕ
 lineBytes (Pass judged) = passLine judged
@@ -50,3 +54,7 @@ lineBytes (Found number node judged route) = foundLine number node judged route
 -- The longest line is a finding's with a route: its first word, seven numbers of at most 20 digits behind a space each, a line feed.
 abbrev pub longestLine : ℕ
 longestLine = length (text "found") + 7 * 21 + 1
+
+-- A box's line is an id of at most 20 digits, four numbers behind a space each, a line feed.
+abbrev pub longestBoxLine : ℕ
+longestBoxLine = 20 + 4 * 21 + 1

@@ -8,11 +8,15 @@ mod answer;
 mod split;
 mod words;
 
+pub use answer::LONGEST_BOX_LINE;
 pub use answer::LONGEST_LINE;
 pub use answer::place_line;
+pub use answer::put_box;
 pub use answer::put_line;
 use routes::Route;
 pub use split::first_length;
+pub use split::named_id;
+pub use split::named_length;
 pub use words::add_numbers;
 pub use words::add_route;
 pub use words::put_number;

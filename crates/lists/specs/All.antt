@@ -1,7 +1,10 @@
--- A fact at every element of a list, and tests over a list: whether all elements meet one, whether any does.
+-- A fact at every element of a list, and tests over a list: whether all elements meet one, whether any does. A list of numbers that are
+-- all different.
 -- The library's `any` and `all` do not compute outside their module, so these stand here, with the test first.
 use mathlib.Core.Bool.{Bool, true, false, _&&_, _||_}
 use mathlib.Core.List.{List, [], _∷_}
+use mathlib.Core.Path.{_≡_}
+use Prim.Native.Nat.{ℕ}
 
 module _ {A : Type 0} where
   abbrev pub All : (A → Type 0) → List A → Type 0
@@ -15,3 +18,7 @@ module _ {A : Type 0} where
   abbrev pub any : (A → Bool) → List A → Bool
   any p [] = false
   any p (x ∷ xs) = p x || any p xs
+
+abbrev pub Distinct : List ℕ → Type 0
+Distinct [] = Unit {0}
+Distinct (x ∷ xs) = All (λ (y : ℕ). x ≡ y → ⊥) xs × Distinct xs

@@ -12,3 +12,4 @@ pub mod Paper
 pub mod Covering
 pub mod Counts
 pub mod Silence
+pub mod Trail

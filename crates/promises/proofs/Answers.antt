@@ -20,7 +20,7 @@ use Rattle.networks.specs.Sheets.{number}
 use Rattle.layout.specs.Form.{formOf, sheetLead}
 use Rattle.layout.specs.Refusals.{numberOf}
 use Rattle.layout.specs.declared.Class.{Class}
-use Rattle.layout.specs.declared.Class.the-variants.{NoEntry, NoFragment, NoRoom}
+use Rattle.layout.specs.declared.Class.the-variants.{NoEntry, NoSuchOwn, NoRoom}
 use Rattle.layout.specs.declared.Refusal.{Refusal}
 use Rattle.layout.proofs.Cases.{classOf, number-class}
 use Rattle.entries.specs.Entries.{WellFormed}
@@ -191,7 +191,7 @@ module _ (s : Suite) where
   cuts-alike network sheet small sheet-small = (to, from)
     where
       to : ((k : ℕ) (out : List ℕ) (r : Refusal) → k < 256 → Bytes out → s .cut network sheet k out ≡ answer.Refused r
-          → (r .class ≡ NoFragment) ⊎ (r .class ≡ NoRoom)) → SheetCuts network sheet
+          → (r .class ≡ NoSuchOwn) ⊎ (r .class ≡ NoRoom)) → SheetCuts network sheet
       to h k room n place asked e = go (s .cut network sheet k (replicate room 0)) refl
         where
           same : cutting.answerOf (s .cut network sheet k (replicate room 0)) ≡ refused n place
@@ -205,9 +205,9 @@ module _ (s : Suite) where
               ⊎-elim (λ c. inl (z ∙ ap numberOf c)) (λ c. inr (z ∙ ap numberOf c)) (h k (replicate room 0) r asked (zero-bytes room) q)
 
       from : SheetCuts network sheet → (k : ℕ) (out : List ℕ) (r : Refusal) → k < 256 → Bytes out → s .cut network sheet k out ≡ answer.Refused r
-          → (r .class ≡ NoFragment) ⊎ (r .class ≡ NoRoom)
+          → (r .class ≡ NoSuchOwn) ⊎ (r .class ≡ NoRoom)
       from h k out r asked out-small e =
-          ⊎-elim (λ q. inl (class-is (r .class) NoFragment q)) (λ q. inr (class-is (r .class) NoRoom q))
+          ⊎-elim (λ q. inl (class-is (r .class) NoSuchOwn q)) (λ q. inr (class-is (r .class) NoRoom q))
           (h k (length out) (numberOf (r .class)) (r .place) asked
           (sym (cut-said s network sheet k out small sheet-small asked out-small) ∙ ap cutting.answerOf e))
 

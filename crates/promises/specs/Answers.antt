@@ -23,7 +23,7 @@ use Rattle.networks.specs.Network.{Own, own, ownBoxes, box, owns}
 use Rattle.networks.specs.Sheets.{number, listed}
 use Rattle.networks.specs.Solution.{mapping, Solution, Demands}
 use Rattle.layout.specs.Form.{formOf, listLead, sheetLead}
-use Rattle.layout.specs.declared.Class.the-variants.{NoEntry, NoFragment, NoRoom}
+use Rattle.layout.specs.declared.Class.the-variants.{NoEntry, NoSuchOwn, NoRoom}
 use Rattle.layout.specs.declared.Refusal.{Refusal}
 use Rattle.entries.specs.Entries.{WellFormed}
 use Rattle.records.specs.Network.{SoundRecord}
@@ -107,7 +107,7 @@ module _ (s : Suite) where
     -- A sheet cuts a network where the cutter refuses by it for want of the fragment or of room alone.
     abbrev pub CutsAlike : Type 0
     CutsAlike = Bytes network → Bytes sheet → ((k : ℕ) (out : List ℕ) (r : Refusal) → k < 256 → Bytes out → s .cut network sheet k out ≡ answer.Refused r
-        → (r .class ≡ NoFragment) ⊎ (r .class ≡ NoRoom)) ↔ SheetCuts network sheet
+        → (r .class ≡ NoSuchOwn) ⊎ (r .class ≡ NoRoom)) ↔ SheetCuts network sheet
 
     -- Demand 3, fragments and whole: the list passes in every fragment that the cutter gives exactly where it passes in the whole and has the
     -- note at each box that a cut wire leaves.
