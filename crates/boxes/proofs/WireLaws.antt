@@ -18,7 +18,8 @@ use Rattle.lists.specs.Best.{best}
 use Rattle.lists.specs.Rows.{rows}
 use Rattle.lists.specs.Stride.{at}
 use Rattle.lists.proofs.First.{first-le}
-use Rattle.lists.proofs.Rising.{Around, mid, around-start, around-up, around-down, around-end}
+use Rattle.lists.specs.First.{firstBad}
+use Rattle.lists.proofs.Rising.{Climbing, Around, mid, around-start, around-up, around-down, around-end}
 use Rattle.lists.proofs.Rows.{getElem-rows}
 use Rattle.lists.proofs.Test.{le-or-lt}
 use Rattle.numbers.specs.BigEndian.{u16At}
@@ -93,6 +94,12 @@ checked-usable f network h = h .room .usable
 pub checked-long : (f : Form) (network : List ℕ) → CheckedNetwork f network → 10 ≤ length network
 checked-long f network h = h .room .long
 
+pub checked-nodes : (f : Form) (network : List ℕ) → CheckedNetwork f network → 5 + 2 ≤ length network
+checked-nodes f network h = let l = h .room .long in omega arith
+
+pub checked-edges : (f : Form) (network : List ℕ) → CheckedNetwork f network → 7 + 2 ≤ length network
+checked-edges f network h = let l = h .room .long in omega arith
+
 -- the first wire
 module _ (f : Form) (network : List ℕ) (o : ℕ) (e : o ≡ edgeOffset f network 0) where
   pub first-end : WireEnd f network o
@@ -103,37 +110,55 @@ module _ (f : Form) (network : List ℕ) (o : ℕ) (e : o ≡ edgeOffset f netwo
 
 pub ruleset wire-firsts = (checked-usable, checked-long, first-end, first-is)
 
--- where the wires into a box begin, by halving
-module _ (f : Form) (network : List ℕ) (checked : CheckedNetwork f network) (id lo hi : ℕ) (a : Around (edgeTo f network) (edgeCount network) id lo hi) where
-  module _ (l : lo < hi) where
-    pub half-place : mid lo hi ≤ 65535
-    half-place = let g = a .high in omega (arith, u16-below network 7 (checked .bytes _, checked .bytes _))
+-- where the wires into a box begin, by halving: the to end of the j-th wire behind a base
+unfoldable pub toAt : List ℕ → ℕ → ℕ → ℕ
+toAt network base j = u16At network (at base 5 j)
 
-    module _ (base m o : ℕ) (b : base ≡ nodeOffset f network m) (n : m ≡ nodeCount network) (e : o ≡ at base 5 (mid lo hi)) where
-      half-at : o ≡ edgeOffset f network (mid lo hi)
-      unfolding edgeOffset
-      half-at = e ∙ ap (λ (k : ℕ). at k 5 (mid lo hi)) (b ∙ ap (nodeOffset f network) n)
+pub half-start : (network : List ℕ) (base id n : ℕ) → Around (toAt network base) n id 0 n
+half-start network base id n = around-start (toAt network base) n id
 
+module _ (network : List ℕ) (base id n lo hi : ℕ) (a : Around (toAt network base) n id lo hi) where
+  pub half-place : n < 65536 → lo < hi → mid lo hi ≤ 65535
+  half-place m l = let g = a .high in omega arith
+
+  -- the counts as the code reads and widens them
+  module _ (f : Form) (checked : CheckedNetwork f network) (k u v : ℕ) (b : base ≡ nodeOffset f network k) (wide : k ≡ u) (nodes : u ≡ nodeCount network)
+      (wide′ : n ≡ v) (edges : v ≡ edgeCount network) where
+    p : k ≡ nodeCount network
+    p = wide ∙ nodes
+
+    q : n ≡ edgeCount network
+    q = wide′ ∙ edges
+
+    ends : toAt network base ≡ edgeTo f network
+    unfolding toAt edgeTo edgeOffset
+    ends = let to : ℕ → ℕ → ℕ = λ o j. u16At network (at o 5 j) in ap to (b ∙ ap (nodeOffset f network) p)
+
+    climbs : Climbing (toAt network base) n
+    climbs = rw (ends, q) (to-climbs f network checked)
+
+    pub half-end : hi ≤ lo → lo ≡ rowInto f network id
+    unfolding rowInto
+    half-end l = around-end (toAt network base) n id lo hi a l ∙ ap₂ (λ (to : ℕ → ℕ) (m : ℕ). firstBad (λ j. ltb (to j) id) m) ends q
+
+    module _ (l : lo < hi) (o : ℕ) (e : o ≡ at base 5 (mid lo hi)) where
       pub half-room : o + 2 ≤ length network
-      half-room = let g = a .high in omega (arith, half-at, edge-room f network (checked .room) (mid lo hi) (omega arith))
+      unfolding edgeOffset
+      half-room =
+          let g = a .high in
+          let w : at base 5 (mid lo hi) ≡ edgeOffset f network (mid lo hi) = ap (λ (x : ℕ). at x 5 (mid lo hi)) (b ∙ ap (nodeOffset f network) p) in
+          omega (arith, edge-room f network (checked .room) (mid lo hi) (omega arith))
 
-      module _ (to : ℕ) (p : to ≡ u16At network o) where
-        half-to : to ≡ edgeTo f network (mid lo hi)
-        unfolding edgeTo
-        half-to = p ∙ ap (u16At network) half-at
+      module _ (to : ℕ) (r : to ≡ u16At network o) where
+        to-is : to ≡ toAt network base (mid lo hi)
+        unfolding toAt
+        to-is = r ∙ ap (u16At network) e
 
-        pub half-up : to < id → Around (edgeTo f network) (edgeCount network) id (mid lo hi + 1) hi
-        half-up t = around-up (edgeTo f network) (edgeCount network) id lo hi a to (to-climbs f network checked) l half-to t
+        pub half-up : to < id → Around (toAt network base) n id (mid lo hi + 1) hi
+        half-up t = around-up (toAt network base) n id lo hi a to climbs l to-is t
 
-        pub half-down : id ≤ to → Around (edgeTo f network) (edgeCount network) id lo (mid lo hi)
-        half-down t = around-down (edgeTo f network) (edgeCount network) id lo hi a to (to-climbs f network checked) l half-to t
-
-  pub half-end : hi ≤ lo → lo ≡ rowInto f network id
-  unfolding rowInto
-  half-end l = around-end (edgeTo f network) (edgeCount network) id lo hi a l
-
-pub half-start : (f : Form) (network : List ℕ) (id n m : ℕ) → n ≡ m → m ≡ edgeCount network → Around (edgeTo f network) (edgeCount network) id 0 n
-half-start f network id n m p q = rw (p ∙ q) (around-start (edgeTo f network) (edgeCount network) id)
+        pub half-down : id ≤ to → Around (toAt network base) n id lo (mid lo hi)
+        half-down t = around-down (toAt network base) n id lo hi a to climbs l to-is t
 
 -- the first wire to a box with this id or a higher one
 module _ (f : Form) (network : List ℕ) (id j o : ℕ) (q : j ≡ rowInto f network id) (e : o ≡ edgeOffset f network j) where
@@ -152,7 +177,7 @@ unfolding rowInto
 into-place f network checked id j q =
     omega (arith, q, first-le (λ k. ltb (edgeTo f network k) id) (edgeCount network), u16-below network 7 (checked .bytes _, checked .bytes _))
 
-pub ruleset halving = (checked-usable, checked-long, half-start, half-place, half-room, half-up, half-down, half-end)
+pub ruleset halving = (checked-usable, checked-long, checked-nodes, checked-edges, half-place, half-room, half-up, half-down, half-end)
 
 pub ruleset wire-intos = (checked-usable, checked-long, into-end, into-is, into-place)
 

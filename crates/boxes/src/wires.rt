@@ -82,7 +82,11 @@ pub fn wire_into(form: Form, network: &[u8], id: u16) -> NextWire
     requires { ⌜ CheckedNetwork form (now network) ⌝ }
     ensures { λ r. ⌜ r ≡ nextFrom (now (network .entry)) (edgeOffset form (now (network .entry)) (rowInto form (now (network .entry)) id)) ⌝ }
 {
-    wire_from(form, network, edge_offset(form, network, row_into(form, network, id)))
+    wire_from(
+        form,
+        network,
+        edge_offset(form, network, row_into(form, network, id)),
+    )
 }
 
 // What the wire at an offset gives the box that it leads to.

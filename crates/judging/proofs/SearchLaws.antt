@@ -295,7 +295,7 @@ module _ (f : Form) (network list rows stands : List ℕ) (n i count row node : 
     -- no further wire into the box
     module _ (ne : wire .to ≡ k → ⊥) where
       past : w .j < edgeCount network → node < edgeTo f network (w .j)
-      past m = rw (← q) (next-past f network wiring-checked wire (w .j) next k small ne (λ l. rw q (w .ahead l)) m)
+      past m = let z = next-past f network wiring-checked wire (w .j) next k small ne (λ l. let a = w .ahead l in omega arith) m in omega arith
 
       -- what the fault at the box makes of the verdict
       at-fault : (o : Option (Finding Route)) → o ≡ faultOf f network row (held (house highest) (readList f list) (nodeId f network row)) u

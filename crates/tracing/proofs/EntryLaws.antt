@@ -66,6 +66,10 @@ module _ (f : Form) (network list rows stands : List ℕ) (h : Prepared f networ
   pub trail-room : 0 + (length (trailFrom f network list id) + longestBoxLine) < 2 ^ 64
   trail-room = let s = short in omega arith
 
+  pub put-short : (a b : List ℕ) (r : ℕ) → Written (trailFrom f network list id) a 0 b r → r ≤ longestTrail
+  unfolding Written
+  put-short a b r w = let l = w .1 in let s = short in omega arith
+
   -- a room in which every trail fits
   module _ (out out′ : List ℕ) (r : ℕ) (longest : ℕ) (l : longest ≡ longestTrail) (w : Written (trailFrom f network list id) out 0 out′ r) where
     pub roomy-count : longest ≤ length out → r ≡ length (trailFrom f network list id)
@@ -80,7 +84,7 @@ pub owned-boxed : (f : Form) (network : List ℕ) (id : ℕ) → owned f network
 unfolding owned
 owned-boxed f network id o = and-l (boxed f network id) (isOwn f network (rowOf f network id)) o
 
-pub ruleset trails = (owned-boxed, trail-room, roomy-count, roomy-placed)
+pub ruleset trails = (owned-boxed, trail-room, put-short, roomy-count, roomy-placed)
 
 -- the tables by which an own box is known
 pub shown-tabled : (f : Form) (network list rows stands : List ℕ) → Prepared f network list rows stands → Tabled f network rows

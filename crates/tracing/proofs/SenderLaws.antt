@@ -147,7 +147,7 @@ module _ (f : Form) (network list rows stands : List ℕ) (id : ℕ) (route : Ro
       pub supply-end : (wire .to ≡ k → ⊥) → none ≡ supplierIn f network list id
       supply-end ne =
           let past : s .j < edgeCount network → id < edgeTo f network (s .j) =
-          λ m. rw (← q) (next-past f network supply-checked wire (s .j) (s .next) k small ne (λ l. rw q (s .ahead l)) m) in
+          λ m. let z = next-past f network supply-checked wire (s .j) (s .next) k small ne (λ l. let a = s .ahead l in omega arith) m in omega arith in
           sym (ap firstSender (wires-past f network supply-checked id (s .j) (s .next .within) past)) ∙ s .left
 
 pub ruleset supplying = (supply-start, supply-prepared, supply-checked, supply-wire, supply-found, supply-less, supply-next, supply-end)

@@ -64,20 +64,20 @@ module _ (f : Form) (network list rows stands : List ℕ) (h : Prepared f networ
     -- the trail stops at the box
     pub from-last : senderIn f network list i ≡ none → trailFrom f network list i ≡ trailLine f network list i
     unfolding trailFrom trailLines
-    from-last e = rw (trails.trail-end (house highest) N ℒ i e) (append-nil (trailLine f network list i))
+    from-last e = rw (trails.trail-end (house highest) (bounds f) N sound ℒ (house-choice highest) solution (house-costs highest) adds i e) (append-nil (trailLine f network list i))
 
     -- it goes back to another
     module _ (j : ℕ) (e : senderIn f network list i ≡ some j) where
       pub from-next : trailFrom f network list i ≡ trailLine f network list i ++ trailFrom f network list j
       unfolding trailFrom trailLines
-      from-next = rw (trails.trail-next (house highest) (house-choice highest) (house-costs highest) (bounds f) N sound adds ℒ solution i j e)
+      from-next = rw (trails.trail-next (house highest) (bounds f) N sound ℒ (house-choice highest) solution (house-costs highest) adds i j e)
 
       pub sent-boxed : boxed f network j ≡ true
       sent-boxed = sym (has-box-read f network j)
-          ∙ trails.sender-there (house highest) (house-choice highest) (house-costs highest) (bounds f) N sound adds ℒ solution i j e
+          ∙ trails.sender-there (house highest) (bounds f) N sound ℒ i j e
 
       pub sent-cheaper : costOf (ℒ j) < costOf (ℒ i)
-      sent-cheaper = trails.sender-falls (house highest) (house-choice highest) (house-costs highest) (bounds f) N sound adds ℒ solution i j e
+      sent-cheaper = trails.sender-falls (house highest) (bounds f) N sound ℒ (house-choice highest) solution (house-costs highest) adds i j e
 
     pub behind-few : owned f network i ≡ true → length (trailBehind (house highest) N ℒ i) ≤ length (ownBoxes N)
-    behind-few o = trails.shown-short (house highest) (house-choice highest) (house-costs highest) (bounds f) N sound adds ℒ solution i (owns-read f network i ∙ o)
+    behind-few o = trails.shown-short (house highest) (bounds f) N sound ℒ (house-choice highest) solution (house-costs highest) adds i (owns-read f network i ∙ o)

@@ -32,7 +32,11 @@ pub fn held<'a>(
     requires { ⌜ Prepared form (now network) (now list) (now rows) (now stands) × (boxed form (now network) id ≡ true) ⌝ }
     ensures { λ r. ⌜ r ≡ holding form (now (network .entry)) (now (list .entry)) id ⌝ }
 {
-    route_at(form.route, box_part(form, network, list, rows, stands, id), 0)
+    route_at(
+        form.route,
+        box_part(form, network, list, rows, stands, id),
+        0,
+    )
 }
 
 // The sender with the lowest id that supplies the route that a box holds. The wires into a box stand by rising sender.
@@ -79,7 +83,8 @@ pub fn sender<'a>(
         return Sender::NoSender;
     }
     let own = own_box(form, network, row);
-    if same(route, own.initial) {
+    let initial = own.initial;
+    if same(route, initial) {
         return Sender::NoSender;
     }
     supplier(form, network, list, rows, stands, id, route)

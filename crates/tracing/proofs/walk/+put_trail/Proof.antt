@@ -1,0 +1,174 @@
+-- A box's line, and behind it the trail from its sender. The measure is what the box's route costs: the sender's costs less.
+use Rattle.reading.specs.Adding.{costOf}
+use Rattle.tracing.specs.Tracing.{holding}
+use Rattle.tracing.proofs.WalkLaws.{walking, walk-next-room}
+use borrow.Author.Needs.{needs}
+use Prim.Native.Nat.{ℕ, _<_}
+use borrow.Fn.Kinds.{In}
+use borrow.Fn.PlainCycle.{Measures, is, falls, and}
+use Rattle.tracing.proofs.walk.put_trail.Reads as put-trail
+use Rattle.tracing.proofs.walk.put_trail.Kinds as put-trail-kinds
+use Rattle.tracing.proofs.walk.+put_trail.Lts-put_trail as put-trail-lts
+use Rattle.lines.proofs.put_box.Reads as put-box-reads
+use Rattle.tracing.proofs.senders.held.Reads as held-reads
+use Rattle.tracing.proofs.senders.sender.Reads as sender-reads
+use Rattle.tracing.proofs.walk.+put_trail.{statement}
+use Rattle.tracing.proofs.walk.+put_trail.Tie.{close}
+
+abbrev μ-put-trail : Measures 4 put-trail-kinds.ps ℕ
+μ-put-trail κs a = costOf (holding (a .0) (a .1 .0 .now) (a .1 .1 .0 .now) (a .1 .1 .1 .1 .1 .0))
+
+abbrev put-trail-at : ℕ → In 4 put-trail-kinds.ps
+put-trail-at t = and 4 put-trail-kinds.ps (is 4 put-trail-kinds.ps μ-put-trail t) put-trail.Pre
+
+abbrev put-trail-below : ℕ → In 4 put-trail-kinds.ps
+put-trail-below t =
+    and 4 put-trail-kinds.ps (falls 4 put-trail-kinds.ps _<_ μ-put-trail t) put-trail.Pre
+
+put-trail-held-requires : (t : ℕ) → put-trail-lts.Need-held-requires (
+  held-reads.Asked,
+  held-reads.Learnt,
+  put-box-reads.Asked,
+  put-box-reads.Learnt,
+  sender-reads.Asked,
+  sender-reads.Learnt,
+  put-trail-below t,
+  put-trail.Post,
+) (put-trail-at t) put-trail.Post
+put-trail-held-requires t c κs = search needs
+
+put-trail-put-box-requires : (t : ℕ) → put-trail-lts.Need-put-box-requires (
+  held-reads.Asked,
+  held-reads.Learnt,
+  put-box-reads.Asked,
+  put-box-reads.Learnt,
+  sender-reads.Asked,
+  sender-reads.Learnt,
+  put-trail-below t,
+  put-trail.Post,
+) (put-trail-at t) put-trail.Post
+put-trail-put-box-requires t c κs = search (needs, walking)
+
+put-trail-sender-requires : (t : ℕ) → put-trail-lts.Need-sender-requires (
+  held-reads.Asked,
+  held-reads.Learnt,
+  put-box-reads.Asked,
+  put-box-reads.Learnt,
+  sender-reads.Asked,
+  sender-reads.Learnt,
+  put-trail-below t,
+  put-trail.Post,
+) (put-trail-at t) put-trail.Post
+put-trail-sender-requires t c κs = search needs
+
+put-trail-enum-told : (t : ℕ) → put-trail-lts.Need-enum-told (
+  held-reads.Asked,
+  held-reads.Learnt,
+  put-box-reads.Asked,
+  put-box-reads.Learnt,
+  sender-reads.Asked,
+  sender-reads.Learnt,
+  put-trail-below t,
+  put-trail.Post,
+) (put-trail-at t) put-trail.Post
+put-trail-enum-told t c = search (needs, walking)
+
+put-trail-enum-known-from : (t : ℕ) → put-trail-lts.Need-enum-known-from (
+  held-reads.Asked,
+  held-reads.Learnt,
+  put-box-reads.Asked,
+  put-box-reads.Learnt,
+  sender-reads.Asked,
+  sender-reads.Learnt,
+  put-trail-below t,
+  put-trail.Post,
+) (put-trail-at t) put-trail.Post
+put-trail-enum-known-from t c = search (needs, walking)
+
+put-trail-put-trail-requires : (t : ℕ) → put-trail-lts.Need-put-trail-requires (
+  held-reads.Asked,
+  held-reads.Learnt,
+  put-box-reads.Asked,
+  put-box-reads.Learnt,
+  sender-reads.Asked,
+  sender-reads.Learnt,
+  put-trail-below t,
+  put-trail.Post,
+) (put-trail-at t) put-trail.Post
+put-trail-put-trail-requires t c κs =
+    let given = c .before .before .before .before .before .before .before .before .before .before .before .before .before .pre .1 in
+    (search walking, ((search needs, search needs), (search walking, search (walk-next-room _ _ _ _ _ (given .0 .0) (given .0 .1)))))
+
+put-trail-same-length : (t : ℕ) → put-trail-lts.Need-same-length (
+  held-reads.Asked,
+  held-reads.Learnt,
+  put-box-reads.Asked,
+  put-box-reads.Learnt,
+  sender-reads.Asked,
+  sender-reads.Learnt,
+  put-trail-below t,
+  put-trail.Post,
+) (put-trail-at t) put-trail.Post
+put-trail-same-length t c = search (needs, walking)
+
+put-trail-returns : (t : ℕ) → put-trail-lts.Need-returns (
+  held-reads.Asked,
+  held-reads.Learnt,
+  put-box-reads.Asked,
+  put-box-reads.Learnt,
+  sender-reads.Asked,
+  sender-reads.Learnt,
+  put-trail-below t,
+  put-trail.Post,
+) (put-trail-at t) put-trail.Post
+put-trail-returns t c = search (needs, walking)
+
+put-trail-same-length-2 : (t : ℕ) → put-trail-lts.Need-same-length-2 (
+  held-reads.Asked,
+  held-reads.Learnt,
+  put-box-reads.Asked,
+  put-box-reads.Learnt,
+  sender-reads.Asked,
+  sender-reads.Learnt,
+  put-trail-below t,
+  put-trail.Post,
+) (put-trail-at t) put-trail.Post
+put-trail-same-length-2 t c = search (needs, walking)
+
+put-trail-returns-2 : (t : ℕ) → put-trail-lts.Need-returns-2 (
+  held-reads.Asked,
+  held-reads.Learnt,
+  put-box-reads.Asked,
+  put-box-reads.Learnt,
+  sender-reads.Asked,
+  sender-reads.Learnt,
+  put-trail-below t,
+  put-trail.Post,
+) (put-trail-at t) put-trail.Post
+put-trail-returns-2 t c =
+    let given = c .before .before .before .before .before .before .before .before .before .before .before .before .before .before .before .before .pre .1 in
+    search walking
+
+pub +put-trail-spec : {M : Type 1} → statement M
++put-trail-spec = close μ-put-trail λ t. put-trail-lts.spec (
+  held-reads.Asked,
+  held-reads.Learnt,
+  put-box-reads.Asked,
+  put-box-reads.Learnt,
+  sender-reads.Asked,
+  sender-reads.Learnt,
+  put-trail-below t,
+  put-trail.Post,
+)
+    (put-trail-at t)
+    put-trail.Post
+    (put-trail-held-requires t)
+    (put-trail-put-box-requires t)
+    (put-trail-sender-requires t)
+    (put-trail-enum-told t)
+    (put-trail-enum-known-from t)
+    (put-trail-put-trail-requires t)
+    (put-trail-same-length t)
+    (put-trail-returns t)
+    (put-trail-same-length-2 t)
+    (put-trail-returns-2 t)
