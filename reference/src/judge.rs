@@ -74,7 +74,7 @@ pub fn neighbour<'a>(network: &'a [u8], list: &'a [u8], id: u16) -> &'a [u8] {
 }
 
 /// What a node holds: the listed route of an own node, the assumed one of an input.
-fn held_bytes<'a>(proposal: &Proposal<'a>, row: usize, node: Node<'a>) -> &'a [u8] {
+pub(crate) fn held_bytes<'a>(proposal: &Proposal<'a>, row: usize, node: Node<'a>) -> &'a [u8] {
     proposal.route_bytes(row).unwrap_or(node.route_bytes)
 }
 

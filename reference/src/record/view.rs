@@ -1,7 +1,7 @@
 //! Views of records that have passed the check: they lend parts of the record and decode a field
 //! when it is asked for.
 
-use crate::form::{Form, ASKS, EDGE, KIND, MOST, ROUTE};
+use crate::form::{Form, ASKS, EDGE, KIND, MOST, POLICY, ROUTE};
 use crate::route::{self, Demand, Policy, Promise, Route};
 
 /// Where each id stands among the nodes, and which rows are own nodes. Rows are kept plus one, so
@@ -91,9 +91,22 @@ impl<'a> Network<'a> {
         rows(self.edges).map(Edge::read)
     }
 
+    /// The edges into a node, by rising sender. Edges stand by their to end, so that the first is
+    /// found by halving.
+    pub fn edges_into(&self, id: u16) -> impl Iterator<Item = Edge> + 'a {
+        let (edges, _) = self.edges.as_chunks::<EDGE>();
+        let first = edges.partition_point(|edge| number_at(edge, 0) < id);
+        let onward = edges[first..].iter().map(Edge::read);
+        onward.take_while(move |edge| edge.to == id)
+    }
+
     pub fn node(&self, row: usize) -> Node<'a> {
         let size = self.form.node();
         Node::of(&self.nodes[row * size..][..size], self.form)
+    }
+
+    pub fn policy(&self, row: u8) -> Policy {
+        Policy::read(part_at(self.policies, POLICY * usize::from(row)))
     }
 
     pub fn policy_part(&self) -> &'a [u8] {
