@@ -1,7 +1,7 @@
 //! Views of records that have passed the check: they lend parts of the record and decode a field
 //! when it is asked for.
 
-use crate::form::{Form, ASKS, EDGE, KIND, MOST, POLICY, ROUTE};
+use crate::form::{Form, ASKS, EDGE, KIND, MOST, ROUTE};
 use crate::route::{self, Demand, Policy, Promise, Route};
 
 /// Where each id stands among the nodes, and which rows are own nodes. Rows are kept plus one, so
@@ -103,10 +103,6 @@ impl<'a> Network<'a> {
     pub fn node(&self, row: usize) -> Node<'a> {
         let size = self.form.node();
         Node::of(&self.nodes[row * size..][..size], self.form)
-    }
-
-    pub fn policy(&self, row: u8) -> Policy {
-        Policy::read(part_at(self.policies, POLICY * usize::from(row)))
     }
 
     pub fn policy_part(&self) -> &'a [u8] {
