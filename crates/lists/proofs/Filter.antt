@@ -1,11 +1,12 @@
 -- The elements that meet a test, and the images that a partial function gives, in order.
 --     filter        its laws, and what any and All say of it
+--     firstThat     the first element that meets a test (the lowest of a rising list: firstThat-lowest of Sorted)
 --     length-..     how many elements meet a test, or are images
 --     map           what any and All say of it
 --     filterMap     its laws, and what any and All say of it (twice over: filterMap-filterMap of mathlib.Core.List)
 use mathlib.Core.Path.{_≡_, refl, sym, ap, ap₂, _∙_, subst}
 use mathlib.Core.Bool.{Bool, true, false, cond, not, _&&_, _||_, and-comm, false≢true}
-use mathlib.Core.Option.{Option, none, some, Option·elim, Option·none-ne-some, Option·some-injective}
+use mathlib.Core.Option.{Option, none, some, Option·elim, Option·none-ne-some, Option·some-ne-none, Option·some-injective}
 use mathlib.Core.List.{List, [], _∷_, filterMap, filterMap-some, map}
 use mathlib.Core.Logic.{_↔_}
 use Prim.Native.Nat.{suc, _+_, _≤_, _<_}
@@ -14,7 +15,7 @@ use lib.ListN.{length}
 use Rattle.lists.proofs.All.{all-of, false-any}
 use Rattle.lists.proofs.Test.{or-f-l, or-f-r}
 use Rattle.lists.specs.All.{All, any}
-use Rattle.lists.specs.Filter.{filter, holds}
+use Rattle.lists.specs.Filter.{filter, firstThat, holds}
 
 module _ {A : Type 0} where
   pub filter-congr : (p q : A → Bool) (xs : List A) → All (λ (x : A). p x ≡ q x) xs → filter p xs ≡ filter q xs
@@ -80,6 +81,26 @@ module _ {A : Type 0} where
           → (t ≡ true → P x) × All (λ (y : A). p y ≡ true → P y) xs
       go true k r = (λ e. k .0, r (k .1))
       go false k r = (λ e. absurd (false≢true e), r k)
+
+  -- the first element that meets a test meets it, and has what every element has
+  pub firstThat-meets : (P : A → Type 0) (p : A → Bool) (xs : List A) (x : A) → All P xs → firstThat p xs ≡ some x → P x × (p x ≡ true)
+  firstThat-meets P p [] x h e = absurd (Option·none-ne-some _ e)
+  firstThat-meets P p (y ∷ ys) x h e = go (p y) refl e (firstThat-meets P p ys x (h .1))
+    where
+      go : (t : Bool) → p y ≡ t → cond t (some y) (firstThat p ys) ≡ some x → (firstThat p ys ≡ some x → P x × (p x ≡ true)) → P x × (p x ≡ true)
+      go true q z r =
+          let s = Option·some-injective _ _ z in
+          (subst P s (h .0), subst (λ (v : A). p v ≡ true) s q)
+      go false q z r = r z
+
+  -- there is none where no element meets it
+  pub firstThat-none : (p : A → Bool) (xs : List A) → firstThat p xs ≡ none → any p xs ≡ false
+  firstThat-none p [] e = refl
+  firstThat-none p (x ∷ xs) e = go (p x) e (firstThat-none p xs)
+    where
+      go : (t : Bool) → cond t (some x) (firstThat p xs) ≡ none → (firstThat p xs ≡ none → any p xs ≡ false) → t || any p xs ≡ false
+      go true z r = absurd (Option·some-ne-none _ z)
+      go false z r = r z
 
 module _ {A B : Type 0} where
   pub map-congr : (f g : A → B) (xs : List A) → All (λ (x : A). f x ≡ g x) xs → map f xs ≡ map g xs
@@ -185,6 +206,21 @@ module _ {A : Type 0} where
       go true false f l = absurd (false≢true (f refl))
       go false true f l = omega arith
       go false false f l = l
+
+  -- and one meets the second alone
+  pub length-fewer : (p q : A → Bool) (xs : List A) → All (λ (x : A). p x ≡ true → q x ≡ true) xs → any (λ (x : A). q x && not (p x)) xs ≡ true
+      → length (filter p xs) < length (filter q xs)
+  length-fewer p q [] h e = absurd (false≢true e)
+  length-fewer p q (x ∷ xs) h e = go (p x) (q x) (h .0) e (length-within p q xs (h .1)) (length-fewer p q xs (h .1))
+    where
+      go : (s t : Bool) → (s ≡ true → t ≡ true) → (t && not s) || any (λ (y : A). q y && not (p y)) xs ≡ true
+          → length (filter p xs) ≤ length (filter q xs)
+          → (any (λ (y : A). q y && not (p y)) xs ≡ true → length (filter p xs) < length (filter q xs))
+          → length (cond s (x ∷ filter p xs) (filter p xs)) < length (cond t (x ∷ filter q xs) (filter q xs))
+      go true true f z l r = let k : length (filter p xs) < length (filter q xs) = r z in omega arith
+      go true false f z l r = absurd (false≢true (f refl))
+      go false true f z l r = omega arith
+      go false false f z l r = r z
 
   -- each element meets the test or does not
   pub length-split : (p : A → Bool) (xs : List A) → length (filter p xs) + length (filter (λ (x : A). not (p x)) xs) ≡ length xs

@@ -1,4 +1,4 @@
--- Lists whose elements rise strictly by a key, under filter, filterMap and map.
+-- Lists whose elements rise strictly by a key, under filter, firstThat, filterMap and map.
 use mathlib.Core.Path.{_≡_, refl, sym, ap, _∙_, subst}
 use mathlib.Core.Bool.{Bool, true, false, cond, _||_}
 use mathlib.Core.Option.{Option, none, some, Option·elim, Option·map, bind, Option·none-ne-some, Option·some-injective}
@@ -7,9 +7,10 @@ use Prim.Native.Nat.{ℕ, suc, _≤_, _<_}
 use native.Mathlib.Omega.{arith}
 use lib.Dec.{eqb, leb}
 use borrow.Author.Tests.{eqb-true, eq-eqb, ne-eqb, leb-true, le-leb, lt-leb}
+use Rattle.lists.proofs.All.{all-map}
 use Rattle.lists.proofs.Test.{or-i-l, or-i-r, and-l, and-r, and-i}
 use Rattle.lists.specs.All.{All, any}
-use Rattle.lists.specs.Filter.{filter}
+use Rattle.lists.specs.Filter.{filter, firstThat}
 use Rattle.lists.specs.Sorted.{Rises, find, rises}
 
 module _ {A : Type 0} (key : A → ℕ) where
@@ -28,6 +29,10 @@ module _ {A : Type 0} (key : A → ℕ) where
   rises-weak lo hi [] l h = tt
   rises-weak lo hi (x ∷ xs) l h = (omega arith, h .1)
 
+  pub rises-above : (lo : ℕ) (xs : List A) → Rises key lo xs → All (λ (x : A). lo ≤ key x) xs
+  rises-above lo [] h = tt
+  rises-above lo (x ∷ xs) h = (h .0, rises-above lo xs (rises-weak lo (suc (key x)) xs (omega arith) (h .1)))
+
   pub rises-filter : (p : A → Bool) (lo : ℕ) (xs : List A) → Rises key lo xs → Rises key lo (filter p xs)
   rises-filter p lo [] h = tt
   rises-filter p lo (x ∷ xs) h = go (p x) (rises-filter p (suc (key x)) xs (h .1))
@@ -44,6 +49,22 @@ module _ {A : Type 0} (key : A → ℕ) where
   pub filter-low : (i lo : ℕ) (xs : List A) → i < lo → Rises key lo xs → filter (λ (x : A). leb (key x) i) xs ≡ []
   filter-low i lo [] l h = refl
   filter-low i lo (x ∷ xs) l h = rw (lt-leb (key x) i (omega arith)) (filter-low i (suc (key x)) xs (omega arith) (h .1))
+
+  -- the first element that meets a test is the lowest that does
+  pub firstThat-lowest : (p : A → Bool) (lo : ℕ) (xs : List A) (x : A) → Rises key lo xs → firstThat p xs ≡ some x
+      → All (λ (y : A). key y < key x → p y ≡ false) xs
+  firstThat-lowest p lo [] x h e = tt
+  firstThat-lowest p lo (y ∷ ys) x h e = go (p y) refl e (firstThat-lowest p (suc (key y)) ys x (h .1))
+    where
+      go : (t : Bool) → p y ≡ t → cond t (some y) (firstThat p ys) ≡ some x
+          → (firstThat p ys ≡ some x → All (λ (z : A). key z < key x → p z ≡ false) ys)
+          → (key y < key x → p y ≡ false) × All (λ (z : A). key z < key x → p z ≡ false) ys
+      go true q z r =
+          let s : key y ≡ key x = ap key (Option·some-injective _ _ z) in (
+            λ l. absurd (omega arith),
+            all-map ys (λ v l m. absurd (omega arith)) (rises-above (suc (key y)) ys (h .1)),
+          )
+      go false q z r = (λ l. q, r z)
 
   pub find-key : (i : ℕ) (xs : List A) (x : A) → find key i xs ≡ some x → key x ≡ i
   find-key i [] x e = absurd (Option·none-ne-some _ e)

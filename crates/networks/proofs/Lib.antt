@@ -8,6 +8,7 @@
 --     FragmentsAndWhole, Recutting     the two halves of demand 3
 --     Counting                     the fragments' judged counts
 --     Silence                      what a pass carried
+--     Trails                       where a route started
 --     TwiceRefused                 fragments with no own box in common
 --     PaperTheorems                what document 000 proves
 --     Laws                         all else
@@ -23,6 +24,7 @@ pub mod OneFragment
 pub mod FragmentsAndWhole
 pub mod Counting
 pub mod Silence
+pub mod Trails
 pub mod Recutting
 pub mod TwiceRefused
 pub mod PaperTheorems

@@ -2,7 +2,7 @@
 --     found, there             for either kind: what the box with an id knows, and each box is the one with its id
 --     own-found, input-found, own-there, input-there     the same for own boxes and for inputs
 --     own-rise                 own boxes stand by rising id
---     owned, own-fact, own-any     from `owns` to the own box, to what every own box has, and to a test that some own box meets
+--     owned, own-box, own-fact, own-any     from `owns` to the own box, to a box, to what every own box has, and to a test that some own box meets
 use mathlib.Core.Path.{_≡_, refl, sym, ap, _∙_, subst}
 use mathlib.Core.Bool.{Bool, true, false≢true}
 use mathlib.Core.Option.{Option, none, some, Option·none-ne-some, Option·some-injective}
@@ -13,7 +13,7 @@ use Rattle.lists.proofs.All.{all-map, any-here}
 use Rattle.lists.proofs.Filter.{all-filterMap, filterMap-all}
 use Rattle.lists.specs.Sorted.{Rises}
 use Rattle.lists.proofs.Sorted.{rises-filterMap, find-key, find-all, find-self}
-use Rattle.networks.specs.Network.{Own, Input, Box, own, input, Network, boxId, asOwn, asInput, isOwnBox, ownBoxes, inputs, box, owns}
+use Rattle.networks.specs.Network.{Own, Input, Box, own, input, Network, boxId, asOwn, asInput, isBox, isOwnBox, ownBoxes, inputs, box, hasBox, owns}
 
 -- one kind of box, and the box that each of the kind is
 module _ {A R P D : Type 0} (N : Network R P D) (kind : Box R D → Option A) (make : A → Box R D) (same : (x : A) → kind (make x) ≡ some x)
@@ -57,6 +57,9 @@ module _ {R P D : Type 0} (N : Network R P D) where
       go none q e = absurd (false≢true e)
       go (some (input a)) q e = absurd (false≢true e)
       go (some (own b)) q e = (b, q, find-key boxId i (N .boxes) (own b) q)
+
+  pub own-box : (i : ℕ) → owns N i ≡ true → hasBox N i ≡ true
+  own-box i t = ap isBox (owned i t .1)
 
   -- what is known of every own box is known of the one with this id
   pub own-fact : (Q : ℕ → Type 0) (i : ℕ) → All (λ (b : Own R D). Q (b .id)) (ownBoxes N) → owns N i ≡ true → Q i

@@ -1,6 +1,7 @@
 -- Solutions, for any mapping ℒ, in a network and in its fragments.
 --     everywhere, anywhere           what every fragment's own boxes have, every own box has, and back
 --     promised-note ..               promises in a fragment
+--     holds-due, holds-assumed       equations 6 and 7 at the box with an id
 --     solution-ext                   a solution is read at the network's boxes only
 --     due-fragment                   the due route of an own box is the same in its fragment
 --     whole-solved, notes-kept       what solves every fragment solves the network, and has the notes where cut wires leave
@@ -16,14 +17,15 @@ use Rattle.lists.proofs.Test.{and-i}
 use Rattle.lists.specs.All.{All}
 use Rattle.lists.proofs.All.{all-map, all-both, all-each, any-found, any-here}
 use Rattle.lists.proofs.Filter.{all-filter, map-congr}
+use Rattle.lists.proofs.Sorted.{find-key}
 use Rattle.networks.specs.Algebra.{Algebra}
-use Rattle.networks.specs.Network.{Own, Input, Wire, Network, isBox, isOwnBox, ownBoxes, inputs, hasBox, wiresInto}
+use Rattle.networks.specs.Network.{Own, Input, own, input, Wire, Network, boxId, isBox, isOwnBox, ownBoxes, inputs, box, hasBox, wiresInto}
 use Rattle.networks.specs.Sound.{sends}
 use Rattle.networks.specs.Sheets.{Sheet, number, note}
 use Rattle.lists.specs.Answer.{isSome}
 use Rattle.networks.specs.Solution.{trans, bestOf, due, Solution}
 use Rattle.networks.specs.Cut.{only, promised, leaves, feeds, promisingOwn, fragmentOf, fragment, Agrees}
-use Rattle.networks.proofs.Laws.Boxes.{own-there, input-there}
+use Rattle.networks.proofs.Laws.Boxes.{own-found, input-found, own-there, input-there}
 use Rattle.networks.proofs.Laws.Pieces.{own-kept, kept-own, inputs-kept, kept-inputs, wires-into-fragment}
 use Rattle.networks.proofs.Laws.Formed.{Formed, feeds-leaves}
 use Rattle.networks.proofs.Laws.Cutting.{Fits}
@@ -62,6 +64,15 @@ own-promised x (some y) n left f g q e = g q e
 
 module _ (𝓐 : Algebra) where
   open Algebra 𝓐 using (Route, Policy, Demand)
+
+  module _ (N : Network Route Policy Demand) (ℒ : ℕ → Route) (solved : Solution 𝓐 N ℒ) (i : ℕ) where
+    pub holds-due : (b : Own Route Demand) → box N i ≡ some (own b) → ℒ i ≡ due 𝓐 N ℒ b
+    holds-due b e = ap ℒ (sym (find-key boxId i (N .boxes) (own b) e))
+        ∙ own-found N (λ (c : Own Route Demand). ℒ (c .id) ≡ due 𝓐 N ℒ c) i b (solved .equation-6) e
+
+    pub holds-assumed : (a : Input Route) → box N i ≡ some (input a) → ℒ i ≡ a .assumed
+    holds-assumed a e = ap ℒ (sym (find-key boxId i (N .boxes) (input a) e))
+        ∙ input-found N (λ (c : Input Route). ℒ (c .id) ≡ c .assumed) i a (solved .equation-7) e
 
   module _ (N : Network Route Policy Demand) (formed : Formed N) (ℒ ℳ : ℕ → Route) (same : (i : ℕ) → hasBox N i ≡ true → ℒ i ≡ ℳ i) where
     due-ext : (b : Own Route Demand) → due 𝓐 N ℒ b ≡ due 𝓐 N ℳ b

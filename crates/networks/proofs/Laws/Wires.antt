@@ -1,6 +1,7 @@
 -- Wires stand by their to end, then by their from end.
 --     wire-order                 what the key of a wire says where ids are ids
---     edge-there, edge-wire      there is a wire from u to v exactly where uv is an edge; of rising wires each is the one between its ends
+--     into-rise, into-all        the wires into a box stand by rising sender, and have what every wire has
+--     edge-there, edge-wire, edge-ends     there is a wire from u to v exactly where uv is an edge; of rising wires each is the one between its ends
 use mathlib.Core.Path.{_≡_, refl, _∙_}
 use mathlib.Core.Bool.{Bool, true, false, cond, _||_, and-comm}
 use mathlib.Core.List.{List, [], _∷_}
@@ -15,7 +16,7 @@ use Rattle.lists.proofs.All.{all-map, all-of, all-each, any-congr}
 use Rattle.lists.specs.Answer.{isSome}
 use Rattle.lists.proofs.Filter.{any-filter, all-filter, filtered-all}
 use Rattle.lists.specs.Sorted.{find, Rises}
-use Rattle.lists.proofs.Sorted.{rises-weak, rises-filter, find-self}
+use Rattle.lists.proofs.Sorted.{rises-weak, rises-filter, find-key, find-all, find-self}
 use Rattle.lists.proofs.Test.{le-or-lt}
 use Rattle.networks.specs.Network.{Wire, Network, ids, wireKey, wiresInto}
 use Rattle.networks.specs.Paper.{E, edge}
@@ -52,6 +53,15 @@ from-rise v low (w ∷ ws) h r =
     )
 
 module _ {R P D : Type 0} (N : Network R P D) where
+  pub into-all : (Q : Wire → Type 0) (v : ℕ) → All Q (N .wires) → All (λ (w : Wire). Q w × (w .to ≡ v)) (wiresInto N v)
+  into-all Q v h = all-filter (λ (w : Wire). Q w × (w .to ≡ v)) (λ (w : Wire). eqb (w .to) v) (N .wires)
+      (all-map (N .wires) (λ w q e. (q, eqb-true (w .to) v e)) h)
+
+  pub into-rise : Rises wireKey 0 (N .wires) → (v : ℕ) → Rises (λ (w : Wire). w .from) 0 (wiresInto N v)
+  into-rise rise v = rises-weak (λ (w : Wire). w .from) 0 (0 - v * ids) (wiresInto N v) (omega arith) (from-rise v 0 (wiresInto N v)
+      (all-filter (λ (w : Wire). w .to ≡ v) (λ (w : Wire). eqb (w .to) v) (N .wires) (all-of (N .wires) (λ w e. eqb-true (w .to) v e)))
+      (rises-filter wireKey (λ (w : Wire). eqb (w .to) v) 0 (N .wires) rise))
+
   pub edge-there : (u v : ℕ) → isSome (edge N u v) ≡ E N u v
   edge-there u v = found-some (λ (w : Wire). w .from) u (wiresInto N v)
       ∙ any-filter (λ (w : Wire). eqb (w .to) v) (λ (w : Wire). eqb (w .from) u) (N .wires)
@@ -61,9 +71,9 @@ module _ {R P D : Type 0} (N : Network R P D) where
   edge-wire rise = all-map (N .wires) (λ w f. f (w .to) (eq-eqb (w .to) (w .to) refl))
       (all-each (λ (v : ℕ) (w : Wire). eqb (w .to) v ≡ true → edge N (w .from) v ≡ some w) (N .wires)
       (λ v. filtered-all (λ (w : Wire). edge N (w .from) v ≡ some w) (λ (w : Wire). eqb (w .to) v) (N .wires)
-      (find-self (λ (w : Wire). w .from) 0 (wiresInto N v) (rising v))))
-    where
-      rising : (v : ℕ) → Rises (λ (w : Wire). w .from) 0 (wiresInto N v)
-      rising v = rises-weak (λ (w : Wire). w .from) 0 (0 - v * ids) (wiresInto N v) (omega arith) (from-rise v 0 (wiresInto N v)
-          (all-filter (λ (w : Wire). w .to ≡ v) (λ (w : Wire). eqb (w .to) v) (N .wires) (all-of (N .wires) (λ w e. eqb-true (w .to) v e)))
-          (rises-filter wireKey (λ (w : Wire). eqb (w .to) v) 0 (N .wires) rise))
+      (find-self (λ (w : Wire). w .from) 0 (wiresInto N v) (into-rise rise v))))
+
+  pub edge-ends : (Q : Wire → Type 0) (u v : ℕ) (w : Wire) → All Q (N .wires) → edge N u v ≡ some w → Q w × (w .from ≡ u) × (w .to ≡ v)
+  edge-ends Q u v w h e =
+      let f = find-all (λ (x : Wire). x .from) (λ (x : Wire). Q x × (x .to ≡ v)) u (wiresInto N v) w (into-all Q v h) e in
+      (f .0, find-key (λ (x : Wire). x .from) u (wiresInto N v) w e, f .1)
