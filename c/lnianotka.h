@@ -2,7 +2,8 @@
  *
  * Every function takes any bytes and comes back. What it promises is proved; what a caller owes is what the types of the
  * proved functions say: a pointer is never null, not even where its length is 0, and no byte of what is written to is a byte
- * of the input. A call takes some 150 kilobytes of stack. Nothing is kept between calls. */
+ * of the input. A call takes some 150 kilobytes of stack, one for a trail of 512 boxes some 250. Nothing is kept between
+ * calls. */
 #ifndef LNIANOTKA_H
 #define LNIANOTKA_H
 
