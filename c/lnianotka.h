@@ -2,7 +2,8 @@
  *
  * Every function takes any bytes and comes back. What it promises is proved; what a caller owes is what the types of the
  * proved functions say: a pointer is never null, not even where its length is 0, and no byte of what is written to is a byte
- * of the input. A call takes some 150 kilobytes of stack. Nothing is kept between calls. */
+ * of the input. A call takes some 150 kilobytes of stack, one for a trail of 512 boxes some 250. Nothing is kept between
+ * calls. */
 #ifndef LNIANOTKA_H
 #define LNIANOTKA_H
 
@@ -15,11 +16,13 @@ extern "C" {
 
 /* The longest inputs that are read; a longer one is refused. */
 size_t lnianotka_judge_input(void);
+size_t lnianotka_trail_input(void);
 size_t lnianotka_cut_input(void);
 
-/* Room enough for every answer of the judge, of the census, and of the cutter. The census reads what the judge reads. */
+/* Room enough for every answer of the judge, of the census, of the trail, and of the cutter. The census reads what the judge reads. */
 size_t lnianotka_judge_answer(void);
 size_t lnianotka_census_answer(void);
+size_t lnianotka_trail_answer(void);
 size_t lnianotka_cut_answer(void);
 
 /* The number of the first refusal, 1 to 10, that applies to a network record, with its place in `*place`; both are 0 where the
@@ -34,6 +37,11 @@ size_t lnianotka_judge(const uint8_t *input, size_t length, uint8_t *out, size_t
 /* What the counting program prints when it reads `input`, which is the judge's: the judge's line, and behind a pass what it carried, with a
  * line `silent ID` for every own box that holds no route though nobody asked for it. Answers and writes as lnianotka_judge does. */
 size_t lnianotka_census(const uint8_t *input, size_t length, uint8_t *out, size_t room);
+
+/* What the tracing program prints when it reads `input`: a network record, two bytes for the id of a box, and then a route list record. For
+ * each box of the trail back from that one a line `ID ROUTE`, which begins with a digit; the judge's line, with 'f' or 'r', where the list
+ * fails, one of the records is refused, or no own box has the id. Answers and writes as lnianotka_judge does. */
+size_t lnianotka_trail(const uint8_t *input, size_t length, uint8_t *out, size_t room);
 
 /* What the cutting program writes when it reads `input`: a network record, one byte for the fragment asked, and then a
  * sheet record. A fragment begins with a zero byte, a refused line with 'r'. Answers and writes as lnianotka_judge does. */

@@ -8,7 +8,7 @@ A plan NAME is NAME.network, NAME.list and NAME.sheet, put together as NAME.judg
 reads) and NAME.cutK (what the cutter reads to cut out fragment K). Each input's answer stands in
 the file of the same name with .out behind it. NAME.partK.judge is fragment K, as it was cut out,
 with the list of the whole; there is none where the cut is refused. Of some plans NAME.census and NAME.partK.census are the same inputs, for
-the census.
+the census, and NAME.trailID and NAME.partK.trailID ask for the trail of the box ID.
 """
 
 import pathlib
@@ -199,6 +199,17 @@ PLANS = {
 # The plans that are counted, too.
 COUNTED = {"chain", "quoting", "fat-tree", "silent-feed"}
 
+# The boxes whose trail is asked for, by plan and, in a plan, of the whole and of fragments.
+TRACED = {
+    "chain": {"": [1, 3, 9], "part1.": [2, 3]},
+    "two-answers": {"": [2, 3], "part1.": [3]},
+    "two-answers-mirror": {"": [2, 3]},
+    "bad-gadget": {"": [2]},
+    "quoting": {"": [1]},
+    "fat-tree": {"": [0, 6, 19], "part3.": [19], "part4.": [3]},
+    "silent-feed": {"": [2, 5]},
+}
+
 
 def reference(command, data):
     """What the reference prints."""
@@ -222,6 +233,11 @@ def files_of(name):
     for part, data in judged.items():
         for call in ["judge", "census"] if name in COUNTED else ["judge"]:
             files[part + call], files[f"{part}{call}.out"] = data, reference(call, data)
+        for id in TRACED.get(name, {}).get(part, []):
+            # The list stands behind the network of the whole or of the fragment.
+            asked = data[: -len(listed)] + struct.pack(">H", id) + listed
+            ending = f"{part}trail{id}"
+            files[ending], files[f"{ending}.out"] = asked, reference("trail", asked)
     return {f"{name}.{ending}": data for ending, data in files.items()}
 
 

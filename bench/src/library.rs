@@ -4,6 +4,8 @@ extern "C" {
     fn lnianotka_check(network: *const u8, length: usize, place: *mut usize) -> u8;
     fn lnianotka_judge(input: *const u8, length: usize, out: *mut u8, room: usize) -> usize;
     fn lnianotka_census(input: *const u8, length: usize, out: *mut u8, room: usize) -> usize;
+    fn lnianotka_trail_answer() -> usize;
+    fn lnianotka_trail(input: *const u8, length: usize, out: *mut u8, room: usize) -> usize;
     fn lnianotka_cut(input: *const u8, length: usize, out: *mut u8, room: usize) -> usize;
 }
 
@@ -25,6 +27,18 @@ pub fn judge(input: &[u8], out: &mut [u8]) -> usize {
 pub fn census(input: &[u8], out: &mut [u8]) -> usize {
     // SAFETY: as above.
     unsafe { lnianotka_census(input.as_ptr(), input.len(), out.as_mut_ptr(), out.len()) }
+}
+
+/// Room enough for every trail: where an answer has it, it is not measured before it is laid.
+pub fn trail_room() -> usize {
+    // SAFETY: the function answers with a number.
+    unsafe { lnianotka_trail_answer() }
+}
+
+/// The trail's answer, laid at the start of `out` where it fits; gives its length.
+pub fn trail(input: &[u8], out: &mut [u8]) -> usize {
+    // SAFETY: as above.
+    unsafe { lnianotka_trail(input.as_ptr(), input.len(), out.as_mut_ptr(), out.len()) }
 }
 
 /// The cutter's answer, laid at the start of `out` where it fits; gives its length.

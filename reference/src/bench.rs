@@ -1,23 +1,25 @@
 //! Timing the calls on the largest records, and writing those records down for others to time.
 
-use crate::call::{CENSUS, CUT, JUDGE};
+use crate::call::{CENSUS, CUT, JUDGE, TRAIL};
 use crate::census;
 use crate::cut;
 use crate::form::{Form, ENTRIES_HEAD, MOST_EDGES, MOST_POLICIES, SHEET_LEAD, VERSION_1};
 use crate::judge;
-use crate::plan::{list_record, sheet_record};
+use crate::known;
+use crate::plan::{list_record, sheet_record, Listed, Noted, Plan};
 use crate::random::Random;
 use crate::record;
 use crate::route::TOP;
 use crate::scene::{self, Dress, Ids, Scene, Style};
 use crate::shapes::{self, Shape};
+use crate::trail;
 use std::hint::black_box;
 use std::path::Path;
 use std::time::Instant;
 
 const SEED: u64 = 0x6c6e_6961_6e6f_746b;
 
-/// One network with a list that passes and a sheet that cuts.
+/// One network with a list that passes, a sheet that cuts, and a box to ask for the trail of.
 pub struct Load {
     pub form: Form,
     pub name: String,
@@ -26,6 +28,7 @@ pub struct Load {
     pub network: Vec<u8>,
     pub list: Vec<u8>,
     pub sheet: Vec<u8>,
+    pub named: u16,
 }
 
 /// The three largest networks of a form, and random ones of fewer wires to see the cost grow.
@@ -77,21 +80,44 @@ fn load(
     let mut scene: Scene = scene::dress(shape, &dress, random);
     assert!(scene.settled, "a steady plan settles");
     scene.ask(3, random);
-    Load {
-        form,
-        name: name.to_string(),
-        boxes: scene.plan.nodes.len(),
-        wires: scene.plan.edges.len(),
-        network: scene.plan.record(),
-        list: list_record(form, &scene.list()),
-        sheet: sheet_record(form, &scene.sheet(numbers)),
-    }
+    Load::of(name, &scene.plan, &scene.list(), numbers)
+}
+
+/// The trail of the most boxes, over the most wires.
+pub fn longest_trail(form: Form) -> Load {
+    let (plan, list) = known::longest_trail(form);
+    Load::of("trail", &plan, &list, &quarters(form.most))
 }
 
 impl Load {
+    /// A plan of own boxes with what they hold, which are the notes too, and with the fragment numbers
+    /// of its rows.
+    fn of(name: &str, plan: &Plan, list: &[Listed], numbers: &[u8]) -> Load {
+        let form = plan.form;
+        let rows = list.iter().zip(numbers);
+        let notes: Vec<Noted> = rows
+            .map(|(entry, number)| (entry.0, *number, entry.1))
+            .collect();
+        Load {
+            form,
+            name: name.to_string(),
+            boxes: plan.nodes.len(),
+            wires: plan.edges.len(),
+            network: plan.record(),
+            list: list_record(form, list),
+            sheet: sheet_record(form, &notes),
+            named: plan.nodes[0].id,
+        }
+    }
+
     /// The judge's input.
     pub fn judge_input(&self) -> Vec<u8> {
         [&self.network[..], &self.list].concat()
+    }
+
+    /// The trail's input.
+    pub fn trail_input(&self) -> Vec<u8> {
+        [&self.network[..], &self.named.to_be_bytes(), &self.list].concat()
     }
 
     /// The cutter's input, for fragment 0.
@@ -114,13 +140,15 @@ impl Load {
 }
 
 /// Prints nanoseconds a call: the median and the lowest. `cut` cuts out fragment 0, `whole` has
-/// all boxes in it; the programs are timed over bytes, from input to output.
+/// all boxes in it; the programs are timed over bytes, from input to output. A trail is short on
+/// most loads, so that of the longest one is timed on a load of its own.
 pub fn run() {
     println!("load       boxes  wires  call          median   lowest");
-    for load in loads(VERSION_1) {
+    for load in loads(VERSION_1).iter().chain([&longest_trail(VERSION_1)]) {
         let (network, list, sheet) = (&load.network[..], &load.list[..], &load.sheet[..]);
         let whole = load.whole_sheet();
         let (judge_input, cut_input) = (load.judge_input(), load.cut_input());
+        let (trail_input, id) = (load.trail_input(), load.named);
         let out = &mut vec![0; load.form.largest_network()];
         let show = |call: &str, (median, lowest): (u128, u128)| {
             let (name, boxes, wires) = (&load.name, load.boxes, load.wires);
@@ -135,6 +163,10 @@ pub fn run() {
             "census",
             time(|| census::census(black_box(network), list, TOP)),
         );
+        show(
+            "trail",
+            time(|| trail::trail(black_box(network), list, id, TOP)),
+        );
         show("cut", time(|| cut::cut(black_box(network), sheet, 0, out)));
         show(
             "whole",
@@ -147,6 +179,10 @@ pub fn run() {
         show(
             "census_bytes",
             time(|| CENSUS.answer(black_box(&judge_input))),
+        );
+        show(
+            "trail_bytes",
+            time(|| TRAIL.answer(black_box(&trail_input))),
         );
         show("cut_bytes", time(|| CUT.answer(black_box(&cut_input))));
     }
@@ -172,7 +208,7 @@ fn time<T>(mut call: impl FnMut() -> T) -> (u128, u128) {
 /// Writes every load's records and inputs into a directory.
 pub fn write_inputs(directory: &Path) -> std::io::Result<()> {
     std::fs::create_dir_all(directory)?;
-    for load in loads(VERSION_1) {
+    for load in loads(VERSION_1).iter().chain([&longest_trail(VERSION_1)]) {
         let put = |ending: &str, bytes: &[u8]| {
             std::fs::write(directory.join(format!("{}.{ending}", load.name)), bytes)
         };
@@ -180,6 +216,7 @@ pub fn write_inputs(directory: &Path) -> std::io::Result<()> {
         put("list", &load.list)?;
         put("sheet", &load.sheet)?;
         put("judge", &load.judge_input())?;
+        put("trail", &load.trail_input())?;
         put("cut", &load.cut_input())?;
         put("whole", &load.whole_input())?;
     }

@@ -45,8 +45,16 @@ pub const CENSUS: &Call = &Call {
     run: program::census_bytes,
 };
 
+/// The id that names a box is two bytes more.
+pub const TRAIL: &Call = &Call {
+    number: 4,
+    name: "trail",
+    bound: Some(|| two_records(LIST_LEAD) + 2),
+    run: program::trail_bytes,
+};
+
 /// All calls by rising number.
-pub const CALLS: [&Call; 4] = [JUDGE, CUT, LENT, CENSUS];
+pub const CALLS: [&Call; 5] = [JUDGE, CUT, LENT, CENSUS, TRAIL];
 
 impl Call {
     pub fn numbered(number: u8) -> Option<&'static Call> {

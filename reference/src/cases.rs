@@ -14,6 +14,7 @@ pub mod counted;
 pub mod examples;
 mod groups;
 pub mod inputs;
+pub mod traced;
 
 const SEED: u64 = 0x6b69_7269_6761_6d69;
 
@@ -75,11 +76,13 @@ fn lay(stream: &mut Vec<u8>, bytes: &[u8]) {
     stream.extend(bytes);
 }
 
-/// What the answer says, without its places: "pass", "found 31", "refused 7" or "fragment". A
-/// fragment begins with a zero byte, since it is shorter than 2 to the 24.
+/// What the answer says, without its places: "pass", "found 31", "refused 7", "trail" or "fragment".
+/// A fragment begins with a zero byte, since it is shorter than 2 to the 24, and a trail with an id.
 fn kind_of(answer: &[u8]) -> String {
-    if answer.first() == Some(&0) {
-        return "fragment".to_string();
+    match answer.first() {
+        Some(0) => return "fragment".to_string(),
+        Some(byte) if byte.is_ascii_digit() => return "trail".to_string(),
+        _ => {}
     }
     let line = String::from_utf8_lossy(answer);
     let mut words = line.split_whitespace();

@@ -2,7 +2,7 @@
 //! it. To the judge no route is a value like any other, so that a plan in which nothing arrives
 //! passes where nothing more is asked.
 
-use crate::judge::{search, Verdict};
+use crate::judge::{search, Verdict, Wires};
 use crate::record::{Proposal, Table};
 use crate::route::{self, Demand, Promise};
 
@@ -29,7 +29,7 @@ pub fn census(network: &[u8], list: &[u8], top: u16) -> (Verdict, Option<Census>
     let mut table = Table::empty();
     match Proposal::read(network, list, &mut table) {
         Ok(proposal) => {
-            let verdict = search(&proposal, &table, top);
+            let verdict = search(&proposal, &Wires::read(&proposal, &table, top));
             let passes = matches!(verdict, Verdict::Pass { .. });
             (verdict, passes.then(|| count(&proposal)))
         }

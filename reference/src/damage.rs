@@ -7,6 +7,7 @@ use crate::random::Random;
 
 mod entries;
 mod layout;
+mod naming;
 mod network;
 
 pub use network::{policy_adds_nothing, policy_flag, policy_preference};
@@ -55,6 +56,13 @@ pub const ALL: [(&str, Damage); 40] = [
     ("fragment asked is absent", entries::asked_absent),
     ("fragment asked is over 63", entries::asked_high),
     ("promise other than the note", network::promise),
+];
+
+/// Damages to the id that names a box. They stand apart, since only some calls have one.
+pub const NAMING: [(&str, Damage); 3] = [
+    ("id of nobody", naming::nobody),
+    ("id of an input", naming::input),
+    ("input that ends in the id", naming::cut_off),
 ];
 
 fn short(input: &mut Input, random: &mut Random) {

@@ -1,6 +1,6 @@
 //! Inputs by their parts.
 
-use crate::call::{Call, CENSUS, CUT, JUDGE};
+use crate::call::{Call, CENSUS, CUT, JUDGE, TRAIL};
 use crate::form::{Form, LIST_LEAD, SHEET_LEAD};
 use crate::plan::{list_record, sheet_record, Listed, Noted, Plan};
 
@@ -11,7 +11,8 @@ pub struct Input {
     pub call: &'static Call,
     pub form: Form,
     pub network: Vec<u8>,
-    /// What stands between the two records: for the cutter the fragment asked.
+    /// What stands between the two records: for the cutter the fragment asked, for the trail the id
+    /// that names a box.
     pub between: Vec<u8>,
     pub second: Vec<u8>,
     /// Bytes of the second record's entries before their route.
@@ -35,6 +36,19 @@ impl Input {
         Input {
             call: CENSUS,
             ..Input::judge(plan, list)
+        }
+    }
+
+    pub fn trail(plan: &Plan, id: u16, list: &[Listed]) -> Input {
+        Input::judge(plan, list).naming(id)
+    }
+
+    /// The judge's input, asking for the trail of a box.
+    pub fn naming(self, id: u16) -> Input {
+        Input {
+            call: TRAIL,
+            between: id.to_be_bytes().to_vec(),
+            ..self
         }
     }
 

@@ -2,7 +2,7 @@
 //! asked of it?
 
 use crate::form::{MOST, MOST_POLICIES};
-use crate::record::{Network, Node, Proposal, Table};
+use crate::record::{Edge, Node, Proposal, Table};
 use crate::refusal::Refusal;
 use crate::route::{self, Policy, Promise, Route};
 
@@ -57,7 +57,7 @@ impl Verdict {
 pub fn judge(network: &[u8], list: &[u8], top: u16) -> Verdict {
     let mut table = Table::empty();
     match Proposal::read(network, list, &mut table) {
-        Ok(proposal) => search(&proposal, &table, top),
+        Ok(proposal) => search(&proposal, &Wires::read(&proposal, &table, top)),
         Err(refusal) => Verdict::Refused(refusal),
     }
 }
@@ -78,30 +78,53 @@ fn held_bytes<'a>(proposal: &Proposal<'a>, row: usize, node: Node<'a>) -> &'a [u
     proposal.route_bytes(row).unwrap_or(node.route_bytes)
 }
 
-/// What each node holds, by row. Worked out apart from the search, which needs all registers.
-#[inline(never)]
-fn held_routes(proposal: &Proposal) -> [Option<Route>; MOST] {
-    let mut held = [None; MOST];
-    for (row, node) in proposal.network.nodes().enumerate() {
-        held[row] = route::read(held_bytes(proposal, row, node));
-    }
-    held
+/// What the wires of a proposal carry, read once for all that follow them.
+pub(crate) struct Wires<'a> {
+    table: &'a Table,
+    /// What each node holds, by row.
+    pub(crate) held: [Option<Route>; MOST],
+    policies: [Policy; MOST_POLICIES],
+    top: u16,
 }
 
-fn policies(network: &Network) -> [Policy; MOST_POLICIES] {
-    let mut policies = [Policy::default(); MOST_POLICIES];
-    for (slot, policy) in policies.iter_mut().zip(network.policies()) {
-        *slot = policy;
+impl<'a> Wires<'a> {
+    /// Worked out apart from the search, which needs all registers.
+    #[inline(never)]
+    pub(crate) fn read(proposal: &Proposal, table: &'a Table, top: u16) -> Wires<'a> {
+        let mut wires = Wires {
+            table,
+            held: [None; MOST],
+            policies: [Policy::default(); MOST_POLICIES],
+            top,
+        };
+        for (row, node) in proposal.network.nodes().enumerate() {
+            wires.held[row] = route::read(held_bytes(proposal, row, node));
+        }
+        for (slot, policy) in wires.policies.iter_mut().zip(proposal.network.policies()) {
+            *slot = policy;
+        }
+        wires
     }
-    policies
+
+    /// The row of a wire's sender.
+    #[inline]
+    pub(crate) fn sender(&self, edge: Edge) -> usize {
+        let row = self.table.row(edge.from);
+        row.expect("both ends of an edge exist")
+    }
+
+    /// What a wire gives the node that it leads to.
+    #[inline]
+    pub(crate) fn given(&self, edge: Edge) -> Option<Route> {
+        let policy = &self.policies[usize::from(edge.policy)];
+        route::carry(policy, self.held[self.sender(edge)], self.top)
+    }
 }
 
 /// Takes the own nodes by rising id and stops at the first fault. Edges rise by their to end,
 /// which is an own node, so each node's incoming edges are the next ones.
-pub(crate) fn search(proposal: &Proposal, table: &Table, top: u16) -> Verdict {
+pub(crate) fn search(proposal: &Proposal, wires: &Wires) -> Verdict {
     let network = &proposal.network;
-    let held = held_routes(proposal);
-    let policies = policies(network);
     let mut edges = network.edges();
     let mut next = edges.next();
     let mut judged = 0;
@@ -114,11 +137,9 @@ pub(crate) fn search(proposal: &Proposal, table: &Table, top: u16) -> Verdict {
         let mut due = node.route();
         while let Some(edge) = next.filter(|edge| edge.to == id) {
             next = edges.next();
-            let from = table.row(edge.from).expect("both ends of an edge exist");
-            let carried = route::carry(&policies[usize::from(edge.policy)], held[from], top);
-            due = route::better(due, carried);
+            due = route::better(due, wires.given(edge));
         }
-        if let Some(fault) = fault_of(held[row], due, node) {
+        if let Some(fault) = fault_of(wires.held[row], due, node) {
             return Verdict::Found {
                 node: id,
                 judged,

@@ -1,9 +1,12 @@
-//! The plans that the bench examples speak of.
+//! Plans by name: those that the bench examples speak of, and those that trails are tried on.
 
+use crate::form::{Form, MOST_EDGES, MOST_POLICIES};
 use crate::plan::{Listed, Node, Noted, Plan};
-use crate::route::{Demand, Policy, Route};
+use crate::route::{Demand, Policy, Route, TOP};
+use crate::settle;
+use crate::shapes;
 
-/// Where routes start in every plan below.
+/// Where routes start in the plans below, but for the longest trail.
 pub const START: Route = Route::new(100, 0, 1, 0);
 
 /// Boxes 1, 2, 3 in a row; wires add 1; box 3 must hold a route of cost 2 at most.
@@ -39,6 +42,7 @@ pub fn chain_sheet() -> Vec<Noted> {
         .collect()
 }
 
+/// The route of the plans' start at this cost.
 fn chain_route(cost: u16) -> Option<Route> {
     Some(Route::new(100, cost, 1, 0))
 }
@@ -61,6 +65,85 @@ pub const QUOTED: Route = Route::new(100, 5, 1, 0);
 /// The list in which both boxes of the pair hold this route.
 pub fn pair_list(held: Option<Route>) -> Vec<Listed> {
     vec![(1, held), (2, held)]
+}
+
+/// Boxes that come by their routes in every way there is; wires add 1. Boxes 2 and 6 start with a
+/// route and input 4 is assumed to hold the same one. Box 3 has it from 2 and from 4, and box 5 from 4
+/// and from 6 (it starts with a worse one). Box 7 starts with what 3 gives it, and gives it to box 1.
+/// Box 8 has no wire and holds none.
+pub fn junction() -> Plan {
+    let mut plan = Plan {
+        policies: vec![Policy::adding(1)],
+        nodes: vec![
+            Node::own(1, None),
+            Node::own(2, chain_route(0)),
+            Node::own(3, None),
+            Node::input(4, chain_route(0)),
+            Node::own(5, chain_route(5)),
+            Node::own(6, chain_route(0)),
+            Node::own(7, chain_route(2)),
+            Node::own(8, None),
+        ],
+        ..Plan::default()
+    };
+    for (from, to) in [(2, 3), (4, 3), (4, 5), (6, 5), (3, 7), (7, 1)] {
+        plan.wire(from, to, 0);
+    }
+    plan
+}
+
+pub fn junction_list() -> Vec<Listed> {
+    let costs = [(1, 3), (2, 0), (3, 1), (5, 1), (6, 0), (7, 2)];
+    let mut list: Vec<Listed> = costs.map(|(id, cost)| (id, chain_route(cost))).into();
+    list.push((8, None));
+    list
+}
+
+/// A fat-tree of four pods; wires add 1. Box 6, of the first pod, starts with a route.
+pub fn fat_tree() -> Plan {
+    let shape = shapes::fat_tree(4);
+    let mut plan = Plan {
+        policies: vec![Policy::adding(1)],
+        nodes: (0..20).map(|id| Node::own(id, None)).collect(),
+        ..Plan::default()
+    };
+    plan.nodes[6].route = Some(START);
+    for (to, from) in shape.wires {
+        plan.wire(from as u16, to as u16, 0);
+    }
+    plan
+}
+
+/// What the fat-tree's boxes come to hold: over the pod, the spine, another pod's upper boxes and
+/// its lower ones.
+pub fn fat_tree_list() -> Vec<Listed> {
+    let costs = [2, 2, 2, 2, 1, 1, 0, 2].into_iter();
+    let costs = costs.chain([3, 3, 4, 4].repeat(3));
+    (0..).zip(costs.map(chain_route)).collect()
+}
+
+/// The longest trail, of as many boxes and wires as a network of this form can have, with a list that
+/// passes. The box with the highest id starts a route, and each box has it from the one with the
+/// next higher id, which is the last of its senders; all other wires lead away from the start.
+pub fn longest_trail(form: Form) -> (Plan, Vec<Listed>) {
+    let most = form.most as u16;
+    let id = |row: u16| u16::MAX - (most - 1 - row);
+    let mut plan = Plan {
+        form,
+        policies: (1..=MOST_POLICIES as u16).map(Policy::adding).collect(),
+        nodes: (0..most).map(|row| Node::own(id(row), None)).collect(),
+        ..Plan::default()
+    };
+    plan.nodes[form.most - 1].route = Some(Route::new(u16::MAX, 10_000, u16::MAX, u16::MAX));
+    let onward = (1..most).map(|row| (row, row - 1));
+    let away = (1..most).flat_map(|step| (step..most).map(move |row| (row - step, row)));
+    for (from, to) in onward.chain(away).take(MOST_EDGES) {
+        plan.wire(id(from), id(to), (from % MOST_POLICIES as u16) as u8);
+    }
+    let (held, settled) = settle::settle(&plan, TOP, form.most);
+    assert!(settled, "a route reaches one box more in each round");
+    let list = settle::listed(&plan, &held);
+    (plan, list)
 }
 
 /// A box that goes straight to box 1.

@@ -1,6 +1,6 @@
 //! An independent reading of the rules for route plans: check a record, judge a list, count what a
-//! pass carried, cut out a fragment, and the calls over bytes. The rest makes inputs: for tests,
-//! for stored cases and for timing.
+//! pass carried, follow a route back to its start, cut out a fragment, and the calls over bytes.
+//! The rest makes inputs: for tests, for stored cases and for timing.
 #![forbid(unsafe_code)]
 
 pub mod call;
@@ -12,6 +12,7 @@ pub mod program;
 pub mod record;
 pub mod refusal;
 pub mod route;
+pub mod trail;
 
 pub mod bench;
 pub mod cases;

@@ -11,7 +11,7 @@ const USAGE: &str = "\
 usage: reference CALL               < input   answer one input
        reference cases STDIN STDOUT           write the stored cases and their answers
        reference replay             < cases   answer a stream of cases
-       reference bench                        time check, judge and cut
+       reference bench                        time the calls
        reference bench-input DIRECTORY        write the timed inputs
 ";
 

@@ -5,6 +5,8 @@ use crate::cut;
 use crate::judge::{self, Verdict};
 use crate::refusal::Refusal;
 use crate::route::{Route, TOP};
+use crate::trail::{self, Step};
+use std::fmt::{self, Write};
 
 /// The judge: a network and then a list; one line back.
 pub fn judge_bytes(input: &[u8]) -> Vec<u8> {
@@ -21,6 +23,26 @@ pub fn census_bytes(input: &[u8]) -> Vec<u8> {
         text.extend(census_lines(&census).into_bytes());
     }
     text
+}
+
+/// The trail: a network, two bytes that name a box, and then a list; a line back for each box of the
+/// trail, or the judge's line.
+pub fn trail_bytes(input: &[u8]) -> Vec<u8> {
+    let (network, rest) = split(input);
+    let (id, list) = split_id(rest);
+    match trail::trail(network, list, id, TOP) {
+        Ok(steps) => trail_lines(&steps).into_bytes(),
+        Err(verdict) => verdict_line(verdict),
+    }
+}
+
+/// Parts the id that names a box from what follows. Of its two bytes those that are missing are 0.
+fn split_id(rest: &[u8]) -> (u16, &[u8]) {
+    match rest {
+        [] => (0, rest),
+        [high] => (u16::from_be_bytes([*high, 0]), &[]),
+        [high, low, list @ ..] => (u16::from_be_bytes([*high, *low]), list),
+    }
 }
 
 /// The cutter: a network, the fragment asked, and then a sheet; the fragment back, or a line.
@@ -82,7 +104,7 @@ fn verdict_line(verdict: Verdict) -> Vec<u8> {
             fault,
         } => {
             let number = fault.number();
-            let route = route_words(fault.route());
+            let route = Words(fault.route());
             format!("found {number} {node} {judged} {route}\n").into_bytes()
         }
     }
@@ -109,16 +131,30 @@ fn census_lines(census: &Census) -> String {
     lines
 }
 
+fn trail_lines(steps: &[Step]) -> String {
+    let mut lines = String::new();
+    for step in steps {
+        let (id, route) = (step.id, Words(step.route));
+        writeln!(lines, "{id} {route}").expect("a string has room");
+    }
+    lines
+}
+
 pub fn refused_line(refusal: Refusal) -> Vec<u8> {
     let Refusal { number, place } = refusal;
     format!("refused {number} {place}\n").into_bytes()
 }
 
-fn route_words(route: Option<Route>) -> String {
-    let Some(route) = route else {
-        return "none".to_string();
-    };
-    let (preference, cost) = (route.preference(), route.cost());
-    let (origin, tags) = (route.origin(), route.tags());
-    format!("{preference} {cost} {origin} {tags}")
+/// A route as a line has it.
+struct Words(Option<Route>);
+
+impl fmt::Display for Words {
+    fn fmt(&self, out: &mut fmt::Formatter) -> fmt::Result {
+        let Some(route) = self.0 else {
+            return out.write_str("none");
+        };
+        let (preference, cost) = (route.preference(), route.cost());
+        let (origin, tags) = (route.origin(), route.tags());
+        write!(out, "{preference} {cost} {origin} {tags}")
+    }
 }

@@ -124,6 +124,16 @@ impl Scene {
         (self.held, self.settled) = settle::settle(&self.plan, top, ROUNDS);
     }
 
+    /// Has about one own node in `rate` start with what it holds, which others supply to it or not.
+    /// It holds the same as before, and so do all others.
+    pub fn start_as_held(&mut self, rate: usize, random: &mut Random) {
+        for (node, held) in self.plan.nodes.iter_mut().zip(&self.held) {
+            if node.own && random.one_in(rate) {
+                node.route = *held;
+            }
+        }
+    }
+
     /// Gives about one own node in `rate` a promise, and as many a demand, that it meets.
     pub fn ask(&mut self, rate: usize, random: &mut Random) {
         for (node, held) in self.plan.nodes.iter_mut().zip(&self.held) {

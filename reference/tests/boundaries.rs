@@ -3,14 +3,14 @@
 mod shared;
 
 use reference::bench::{self, Load};
-use reference::call::{CUT, JUDGE};
+use reference::call::{CUT, JUDGE, TRAIL};
 use reference::form::{Form, FORMS, LIST_LEAD, SHEET_LEAD, VERSION_1};
 use reference::known;
 use reference::plan::{self, Node, Plan};
 use reference::program::split;
 use reference::record::{check_network, read_entries};
 use reference::route::Policy;
-use shared::{cut_bytes, judge_bytes, judge_records, line, list_record, refused};
+use shared::{cut_bytes, judge_bytes, judge_records, line, lines, list_record, refused};
 
 /// Own nodes, each with wires from those that follow it (round the end), and policies.
 fn dense(form: Form, nodes: usize, edges: usize, policies: usize) -> Plan {
@@ -40,6 +40,7 @@ fn sizes_of_document_01() {
     let [list, sheet] = [LIST_LEAD, SHEET_LEAD].map(|lead| form.largest_entries(lead));
     assert_eq!((list, sheet), (5_639, 6_151));
     assert_eq!((JUDGE.bound(), CUT.bound()), (Some(40_785), Some(41_298)));
+    assert_eq!(TRAIL.bound(), Some(40_787));
 }
 
 /// A route is read as its first eight bytes and its last eight.
@@ -110,7 +111,7 @@ fn inputs_of_the_most_bytes_and_of_one_more() {
 
 #[test]
 fn over_size_comes_before_all_else() {
-    for call in [JUDGE, CUT] {
+    for call in [JUDGE, CUT, TRAIL] {
         let bound = call.bound().expect("a program's bound");
         let zeros = |length| line(&call.answer(&vec![0; length]));
         assert_eq!(zeros(bound), "refused 1 4");
@@ -135,6 +136,7 @@ fn next_to_no_input() {
     ] {
         assert_eq!(line(&judge_bytes(&input)), answer);
         assert_eq!(line(&cut_bytes(&input)), answer);
+        assert_eq!(line(&TRAIL.answer(&input)), answer);
     }
 }
 
@@ -186,6 +188,10 @@ fn the_timed_records_are_the_largest_and_pass() {
     let loads = bench::loads(VERSION_1);
     let sizes: Vec<_> = loads.iter().map(|load| (load.boxes, load.wires)).collect();
     assert_eq!(sizes[..3], [(512, 4_096), (512, 4_096), (320, 4_096)]);
+    let trail = bench::longest_trail(VERSION_1);
+    assert_eq!((trail.boxes, trail.wires), (512, 4_096));
+    assert!(judge_bytes(&trail.judge_input()) == pass(&trail));
+    assert_eq!(lines(&TRAIL.answer(&trail.trail_input())).len(), 512);
     let wires: Vec<_> = sizes[3..].iter().map(|(_, wires)| *wires).collect();
     assert_eq!(wires, [512, 1_024, 2_048, 4_096]);
     for load in loads {

@@ -1,8 +1,8 @@
 //! The stored cases: enough of each kind, not too many bytes, and always the same.
 
-use reference::call::{Call, CALLS, CENSUS, CUT, JUDGE, LENT};
+use reference::call::{Call, CALLS, CENSUS, CUT, JUDGE, LENT, TRAIL};
 use reference::cases;
-use reference::damage::ALL;
+use reference::damage::{ALL, NAMING};
 use reference::form::{Form, FORMS};
 use reference::input::Input;
 use reference::known;
@@ -15,7 +15,7 @@ use std::path::Path;
 fn enough_of_each_kind() {
     let stream = cases::make();
     assert!(stream.cases.len() >= 4_000);
-    assert!(stream.inputs().len() + stream.answers().len() < 4_500_000);
+    assert!(stream.inputs().len() + stream.answers().len() < 5_000_000);
     let given = |kind: &str, call: &Call| stream.given(kind, call);
     for kind in ["pass", "found 31", "found 32", "found 33"] {
         assert!(given(kind, JUDGE) >= 200, "{kind}");
@@ -60,6 +60,35 @@ fn enough_of_each_kind_for_the_census() {
     assert!(silent >= 200 && passes.len() - silent >= 200, "{silent}");
     assert!(with("\nholding 0 ") >= 100 && with("\nassumed 0 of 1\n") >= 50);
     assert!(with("\npromised 0 of 1\n") >= 50 && with("\nasked 0\n") >= 100);
+}
+
+#[test]
+fn enough_of_each_kind_for_the_trail() {
+    let stream = cases::make();
+    let given = |kind: &str| stream.given(kind, TRAIL);
+    assert!(given("trail") >= 350);
+    for (kind, least) in [("found 31", 20), ("found 32", 5), ("found 33", 5)] {
+        assert!(given(kind) >= least, "{kind}");
+    }
+    for number in 1..=18 {
+        let kind = format!("refused {number:>2}");
+        let least = if number == 5 { 1 } else { 3 };
+        assert!(given(&kind) >= least, "{kind}");
+    }
+    let traced = stream
+        .cases
+        .iter()
+        .filter(|case| case.call.name == TRAIL.name);
+    let texts = traced.map(|case| String::from_utf8_lossy(&case.answer));
+    let trails: Vec<_> = texts
+        .filter(|text| text.starts_with(|first: char| first.is_ascii_digit()))
+        .collect();
+    let none = trails.iter().filter(|text| text.ends_with(" none\n"));
+    assert!(none.count() >= 20);
+    for (boxes, least) in [(1, 100), (2, 80), (3, 30), (4, 10), (5, 5), (512, 1)] {
+        let long = trails.iter().filter(|text| text.lines().count() == boxes);
+        assert!(long.count() >= least, "{boxes} boxes");
+    }
 }
 
 #[test]
@@ -121,6 +150,20 @@ fn damages_damage() {
     plan.wire(4, 3, 0);
     for form in FORMS {
         damages_damage_plan(plan.clone().of(form));
+    }
+}
+
+/// Each damage to an id, done to an input that has one, is refused.
+#[test]
+fn damages_damage_an_id() {
+    let whole = Input::trail(&known::junction(), 3, &known::junction_list());
+    let random = &mut Random::new(10);
+    for (name, damage) in NAMING {
+        for _ in 0..20 {
+            let mut input = whole.clone();
+            damage(&mut input, random);
+            assert!(input.answer().starts_with(b"refused 1"), "{name}");
+        }
     }
 }
 

@@ -1,4 +1,5 @@
-// What programs in other languages link: the check, the judge, the census and the cutter, from bytes to bytes, and the rooms that these take.
+// What programs in other languages link: the check, the judge, the census, the trail and the cutter, from bytes to bytes, and the rooms that
+// these take.
 //
 // The archive that `rt staticlib library` writes has the functions below under their own names, by C's calling convention;
 // a slice is handed over as a pointer and a length (c/lnianotka.h). No function has a `requires`: a caller in
@@ -10,8 +11,9 @@ ghost use Rattle.layout.specs.Form.{widest};
 ghost use Rattle.layout.specs.Refusals.{numberIn};
 ghost use Rattle.records.specs.Network.{networkRefusal};
 ghost use Rattle.library.specs.Place.{placeIn};
-ghost use Rattle.judging.specs.Text.{judgeText, judgeBound};
+ghost use Rattle.judging.specs.Text.{judgeText, judgeBound, namingBound};
 ghost use Rattle.counting.specs.Text.{censusText, longestCensus};
+ghost use Rattle.tracing.specs.Text.{trailText, longestTrail};
 ghost use Rattle.cutting.specs.Text.{cutText, cutBound};
 use layout::Check;
 use layout::number_of;
@@ -64,6 +66,22 @@ pub extern "C" fn lnianotka_census_answer() -> usize
     counting::longest_census()
 }
 
+// The longest input that is traced; a longer one is refused.
+#[no_mangle]
+pub extern "C" fn lnianotka_trail_input() -> usize
+    ensures { λ r. ⌜ r ≡ namingBound ⌝ }
+{
+    judging::longest_naming()
+}
+
+// Room enough for every trail.
+#[no_mangle]
+pub extern "C" fn lnianotka_trail_answer() -> usize
+    ensures { λ r. ⌜ r ≡ longestTrail ⌝ }
+{
+    tracing::longest_trail()
+}
+
 // The longest input that is cut; a longer one is refused.
 #[no_mangle]
 pub extern "C" fn lnianotka_cut_input() -> usize
@@ -97,6 +115,15 @@ pub extern "C" fn lnianotka_census(input: &[u8], out: &mut [u8]) -> usize
     ensures text { λ _. ⌜ now (out .exit) ≡ placed (censusText (now (input .entry))) (now (out .entry)) ⌝ }
 {
     counting::census_bytes(input, out)
+}
+
+// What the tracing program prints when it reads these bytes: its length, and the text itself at the start of out where it fits.
+#[no_mangle]
+pub extern "C" fn lnianotka_trail(input: &[u8], out: &mut [u8]) -> usize
+    ensures count { λ r. ⌜ r ≡ length (trailText (now (input .entry))) ⌝ }
+    ensures text { λ _. ⌜ now (out .exit) ≡ placed (trailText (now (input .entry))) (now (out .entry)) ⌝ }
+{
+    tracing::trail_bytes(input, out)
 }
 
 // What the cutting program writes when it reads these bytes: its length, and the bytes themselves at the start of out where

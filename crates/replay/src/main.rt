@@ -22,6 +22,7 @@ use numbers::wide16;
 use streams::Input;
 use streams::read_input;
 use streams::write_output;
+use tracing::trail_bytes;
 
 // The most bytes of an input and of an answer.
 const ROOM: usize = 65536;
@@ -78,6 +79,7 @@ fn answer(call: u8, input: &[u8], out: &mut [u8]) -> usize
         1 => cut_bytes(input, out),
         2 => cut_lent(input, out),
         3 => census_bytes(input, out),
+        4 => trail_bytes(input, out),
         _ => place_line(Line::Refused(0, wide(call)), out),
     }
 }

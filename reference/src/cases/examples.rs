@@ -1,6 +1,6 @@
 //! The example plans next to this package, as a person hands them to the programs.
 
-use crate::call::{Call, CENSUS};
+use crate::call::{Call, CENSUS, TRAIL};
 use std::fs;
 use std::path::{Path, PathBuf};
 
@@ -18,8 +18,24 @@ pub fn plans() -> impl Iterator<Item = (PathBuf, &'static Call, Vec<u8>)> {
     })
 }
 
-/// The inputs of the census, and all those of the plan that shows what it is for.
-pub fn about_census(path: &Path, call: &Call) -> bool {
-    let name = path.file_name().and_then(|name| name.to_str());
-    call.number == CENSUS.number || name.is_some_and(|name| name.starts_with("silent-feed."))
+/// What an example is about. Each has a group of its own, so that one more leaves those of the
+/// others as they are.
+#[derive(Clone, Copy, PartialEq, Eq)]
+pub enum About {
+    Judging,
+    Census,
+    Trail,
+}
+
+impl About {
+    /// About the census are its inputs and all those of the plan that shows what it is for.
+    pub fn of(path: &Path, call: &Call) -> About {
+        let name = path.file_name().and_then(|name| name.to_str());
+        let silent = name.is_some_and(|name| name.starts_with("silent-feed."));
+        match call.number {
+            number if number == TRAIL.number => About::Trail,
+            number if number == CENSUS.number || silent => About::Census,
+            _ => About::Judging,
+        }
+    }
 }

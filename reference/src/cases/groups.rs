@@ -1,15 +1,18 @@
 //! The groups of stored cases.
 
-use super::{counted, examples, inputs, Stream};
-use crate::call::{Call, CENSUS, CUT, JUDGE, LENT};
+use super::examples::{self, About};
+use super::{counted, inputs, traced, Stream};
+use crate::call::{Call, CENSUS, CUT, JUDGE, LENT, TRAIL};
 use crate::damage;
 use crate::form::{Form, VERSION_1};
 use crate::input::Input;
 use crate::known;
 use crate::plan::{list_record, sheet_record};
 use crate::random::Random;
-use crate::route::{Demand, Policy, Promise};
 use crate::scene::{self, Scene, Style};
+
+mod by_hand;
+mod trails;
 
 /// The form of a group's records, how often cases are added, and what adds them.
 type Group = (Form, usize, fn(&mut Stream, Form, &mut Random));
@@ -18,8 +21,8 @@ type Group = (Form, usize, fn(&mut Stream, Form, &mut Random));
 type Maker = fn(Scene, &mut Random) -> Input;
 
 /// A group's place says what it draws its numbers from, so a new one comes last.
-pub const ALL: [Group; 25] = [
-    (VERSION_1, 1, known_plans),
+pub const ALL: [Group; 37] = [
+    (VERSION_1, 1, |s, f, _| by_hand::known_plans(s, f)),
     (VERSION_1, 1, |s, f, r| odd_frames(s, &[JUDGE, CUT], f, r)),
     (VERSION_1, 1_000, |s, f, r| small(s, inputs::judge, f, r)),
     (VERSION_1, 800, |s, f, r| small(s, inputs::cut, f, r)),
@@ -33,8 +36,8 @@ pub const ALL: [Group; 25] = [
     (VERSION_1, 1, largest),
     (VERSION_1, 1, |s, f, r| over_size(s, &[JUDGE, CUT], f, r)),
     (VERSION_1, 300, lent),
-    (VERSION_1, 1, |s, _, _| example_plans(s, false)),
-    (VERSION_1, 1, |s, f, _| known_counted(s, f)),
+    (VERSION_1, 1, |s, _, _| example_plans(s, About::Judging)),
+    (VERSION_1, 1, |s, f, _| by_hand::known_counted(s, f)),
     (VERSION_1, 1, |s, f, r| odd_frames(s, &[CENSUS], f, r)),
     (VERSION_1, 400, |s, f, r| small(s, counted::census, f, r)),
     (VERSION_1, 120, |s, f, r| {
@@ -47,9 +50,21 @@ pub const ALL: [Group; 25] = [
     (VERSION_1, 20, |s, f, r| middling(s, counted::census, f, r)),
     (VERSION_1, 1, largest_counted),
     (VERSION_1, 1, |s, f, r| over_size(s, &[CENSUS], f, r)),
-    (VERSION_1, 1, |s, _, _| example_plans(s, true)),
-    (VERSION_1, 1, |s, f, _| known_pairs(s, f)),
+    (VERSION_1, 1, |s, _, _| example_plans(s, About::Census)),
+    (VERSION_1, 1, |s, f, _| by_hand::known_pairs(s, f)),
     (VERSION_1, 150, ill_policies),
+    (VERSION_1, 1, |s, f, _| by_hand::known_traced(s, f)),
+    (VERSION_1, 1, |s, f, r| odd_frames(s, &[TRAIL], f, r)),
+    (VERSION_1, 200, |s, f, r| small(s, traced::trail, f, r)),
+    (VERSION_1, 60, trails::tied),
+    (VERSION_1, 8, trails::every_node),
+    (VERSION_1, 80, |s, f, r| small(s, traced::part, f, r)),
+    (VERSION_1, 160, |s, f, r| damaged(s, traced::trail, f, r)),
+    (VERSION_1, 90, trails::misnamed),
+    (VERSION_1, 60, |s, f, r| disturbed(s, traced::trail, f, r)),
+    (VERSION_1, 10, |s, f, r| middling(s, traced::trail, f, r)),
+    (VERSION_1, 1, |s, f, _| trails::largest(s, f)),
+    (VERSION_1, 1, |s, _, _| example_plans(s, About::Trail)),
 ];
 
 /// The judge's input or the cutter's.
@@ -58,72 +73,6 @@ fn either(scene: Scene, random: &mut Random) -> Input {
         inputs::judge(scene, random)
     } else {
         inputs::cut(scene, random)
-    }
-}
-
-/// The plans of the bench examples.
-fn known_plans(stream: &mut Stream, form: Form, _: &mut Random) {
-    let (chain, list) = (known::chain().of(form), known::chain_list());
-    let nothing: Vec<_> = list.iter().map(|(id, _)| (*id, None)).collect();
-    for list in [&list, &nothing] {
-        stream.add_parts(&Input::judge(&chain, list));
-    }
-    for asked in [0, 1, 2, 63, 64, 255] {
-        stream.add_parts(&Input::cut(&chain, asked, &known::chain_sheet()));
-    }
-    let routes = [known::STRAIGHT, known::AROUND];
-    for (plan, others) in [(known::two_answers(), 2), (known::bad_gadget(), 3)] {
-        let plan = plan.of(form);
-        for choice in 0..1 << others {
-            let held: Vec<_> = (0..others).map(|bit| routes[choice >> bit & 1]).collect();
-            stream.add_parts(&Input::judge(&plan, &known::around_list(&held)));
-        }
-    }
-}
-
-/// The chain and one without its start, with its list and with no route anywhere; of box 2 nothing
-/// is promised or asked, or a route, or none.
-fn known_counted(stream: &mut Stream, form: Form) {
-    let list = known::chain_list();
-    let nothing: Vec<_> = list.iter().map(|(id, _)| (*id, None)).collect();
-    let held = list[1].1;
-    let (ceiling, tags) = (1, 0);
-    for start in [Some(known::START), None] {
-        for promise in [Promise::Nothing, Promise::Holds(held), Promise::Holds(None)] {
-            for demand in [
-                Demand::Nothing,
-                Demand::Route { ceiling, tags },
-                Demand::NoRoute,
-            ] {
-                let mut plan = known::chain().of(form);
-                plan.nodes[0].route = start;
-                plan.nodes[1].promise = promise;
-                plan.nodes[1].demand = demand;
-                plan.nodes[2].demand = Demand::Nothing;
-                stream.add_parts(&Input::census(&plan, &list));
-                stream.add_parts(&Input::census(&plan, &nothing));
-            }
-        }
-    }
-}
-
-/// Two boxes that hold a route which only one of them started, or neither, over wires that add 0, 1
-/// or the most, with or without a second policy, which no wire uses.
-fn known_pairs(stream: &mut Stream, form: Form) {
-    for start in [None, Some(known::QUOTED)] {
-        for added in [0, 1, u16::MAX] {
-            for unused in [&[][..], &[0], &[1]] {
-                let adds: Vec<u16> = [&[added], unused].concat();
-                let policies: Vec<_> = adds.into_iter().map(Policy::adding).collect();
-                let mut plan = known::pair(&policies).of(form);
-                plan.nodes[0].route = start;
-                let list = known::pair_list(Some(known::QUOTED));
-                let sheet = [(1, 0, list[0].1), (2, 1, list[1].1)];
-                stream.add_parts(&Input::judge(&plan, &list));
-                stream.add_parts(&Input::census(&plan, &list));
-                stream.add_parts(&Input::cut(&plan, 1, &sheet));
-            }
-        }
     }
 }
 
@@ -287,10 +236,10 @@ fn lent(stream: &mut Stream, form: Form, random: &mut Random) {
     });
 }
 
-/// The example plans next to this package, by name: those that are about the census, or all others.
-fn example_plans(stream: &mut Stream, census: bool) {
+/// The example plans next to this package, by name, as far as they are about this.
+fn example_plans(stream: &mut Stream, about: About) {
     let mut plans: Vec<_> = examples::plans().collect();
-    plans.retain(|(path, call, _)| examples::about_census(path, call) == census);
+    plans.retain(|(path, call, _)| About::of(path, call) == about);
     plans.sort_unstable_by(|one, other| one.0.cmp(&other.0));
     for (_, call, input) in plans {
         stream.add(call, &input);

@@ -49,7 +49,7 @@ pub fn middling(form: Form, random: &mut Random) -> Scene {
 }
 
 /// A scene with an own box: where all boxes would be inputs, none is.
-fn with_own_box(shape: &Shape, dress: &Dress, random: &mut Random) -> Scene {
+pub(super) fn with_own_box(shape: &Shape, dress: &Dress, random: &mut Random) -> Scene {
     let scene = scene::dress(shape, dress, random);
     if scene.plan.nodes.iter().any(|node| node.own) {
         return scene;

@@ -91,6 +91,15 @@ impl<'a> Network<'a> {
         rows(self.edges).map(Edge::read)
     }
 
+    /// The edges into a node, by rising sender. Edges stand by their to end, so that the first is
+    /// found by halving.
+    pub fn edges_into(&self, id: u16) -> impl Iterator<Item = Edge> + 'a {
+        let (edges, _) = self.edges.as_chunks::<EDGE>();
+        let first = edges.partition_point(|edge| number_at(edge, 0) < id);
+        let onward = edges[first..].iter().map(Edge::read);
+        onward.take_while(move |edge| edge.to == id)
+    }
+
     pub fn node(&self, row: usize) -> Node<'a> {
         let size = self.form.node();
         Node::of(&self.nodes[row * size..][..size], self.form)

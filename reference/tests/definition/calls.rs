@@ -1,4 +1,4 @@
-//! Judging, counting and cutting.
+//! Judging, counting, tracing and cutting.
 
 use super::forms::{both, word, Refused, Rows};
 use std::cmp::Reverse;
@@ -26,8 +26,7 @@ fn carried(policy: &[u8], held: Fields) -> Fields {
 
 /// What a node holds: as listed, or as assumed.
 fn held(rows: &Rows, list: &BTreeMap<u16, &[u8]>, id: u16) -> Fields {
-    let mut nodes = rows.nodes.iter();
-    let node = nodes.find(|node| word(node, 0) == id).expect("a node");
+    let node = rows.node(id);
     match node[2] {
         0 => fields(&list[&id][2..]),
         _ => fields(rows.form.initial(node)),
@@ -54,6 +53,11 @@ fn met(asks: &[u8], held: Fields) -> bool {
     }
 }
 
+fn words(route: Fields) -> String {
+    let words = route.map(|route| route.map(|word| word.to_string()).join(" "));
+    words.unwrap_or("none".into())
+}
+
 /// The judge's line.
 pub fn judge(network: &[u8], list: &[u8]) -> Result<String, Refused> {
     let (rows, list) = both(network, list, 2)?;
@@ -69,8 +73,7 @@ pub fn judge(network: &[u8], list: &[u8]) -> Result<String, Refused> {
             (!met(form.asks(node), held), 33, held),
         ];
         if let Some((_, number, route)) = faults.iter().find(|fault| fault.0) {
-            let words = route.map(|route| route.map(|word| word.to_string()).join(" "));
-            let words = words.unwrap_or("none".into());
+            let words = words(*route);
             return Ok(format!("found {number} {id} {} {words}\n", before + 1));
         }
     }
@@ -106,6 +109,41 @@ pub fn census(network: &[u8], list: &[u8]) -> Result<String, Refused> {
     ];
     let silent = silent.map(|node| format!("silent {}\n", word(node, 0)));
     Ok(line + &lines.concat() + &silent.collect::<String>())
+}
+
+/// A line for each box back from this one, which has to be an own box.
+pub fn trail(network: &[u8], list: &[u8], id: u16) -> Result<String, Refused> {
+    let verdict = judge(network, list)?;
+    let (rows, list) = both(network, list, 2)?;
+    if !rows.is_own(id) {
+        return Err((18, id.into()));
+    }
+    if !verdict.starts_with("pass") {
+        return Ok(verdict);
+    }
+    let mut text = String::new();
+    let mut next = Some(id);
+    while let Some(id) = next {
+        text += &format!("{id} {}\n", words(held(&rows, &list, id)));
+        next = sender(&rows, &list, id);
+    }
+    Ok(text)
+}
+
+/// Of all boxes that have a wire to this one over which the due route comes, the lowest; none where
+/// the due route is the box's own initial one, and none for an input.
+fn sender(rows: &Rows, list: &BTreeMap<u16, &[u8]>, id: u16) -> Option<u16> {
+    let node = rows.node(id);
+    let due = due(rows, list, node);
+    if node[2] == 1 || fields(rows.form.initial(node)) == due {
+        return None;
+    }
+    let supplies = |edge: &&&[u8]| {
+        let policy = rows.policies[usize::from(edge[4])];
+        word(edge, 0) == id && carried(policy, held(rows, list, word(edge, 2))) == due
+    };
+    let senders = rows.edges.iter().filter(supplies);
+    senders.map(|edge| word(edge, 2)).min()
 }
 
 /// A network, the sheet's entries and the fragment asked.

@@ -83,6 +83,12 @@ impl<'a> Rows<'a> {
         }
     }
 
+    /// The node with an id that some node has.
+    pub fn node(&self, id: u16) -> &'a [u8] {
+        let mut nodes = self.nodes.iter();
+        nodes.find(|node| word(node, 0) == id).expect("a node")
+    }
+
     pub fn is_own(&self, id: u16) -> bool {
         let own = |node: &&[u8]| word(node, 0) == id && node[2] == 0;
         self.nodes.iter().any(own)

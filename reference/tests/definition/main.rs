@@ -5,8 +5,9 @@ mod calls;
 mod forms;
 
 use forms::{long, word, Refused, FORMS};
-use reference::call::{CENSUS, JUDGE};
+use reference::call::{CENSUS, JUDGE, TRAIL};
 use reference::cases::{self, Case};
+use reference::program::split;
 
 fn answer(case: &Case) -> Vec<u8> {
     let input = &case.input;
@@ -15,6 +16,7 @@ fn answer(case: &Case) -> Vec<u8> {
         "cut" => program(input, 3, 1, cut),
         "lent" => lent(input),
         "census" => program(input, 2, 0, census),
+        "trail" => program(input, 2, 2, trail),
         other => panic!("{other} is not defined here"),
     })
 }
@@ -45,6 +47,13 @@ fn judge(network: &[u8], list: &[u8]) -> Answer {
 
 fn census(network: &[u8], list: &[u8]) -> Answer {
     calls::census(network, list).map(String::into_bytes)
+}
+
+/// What follows the network is the id that names a box, its high byte first, and then the list.
+fn trail(network: &[u8], rest: &[u8]) -> Answer {
+    let byte = |at: usize| u16::from(*rest.get(at).unwrap_or(&0));
+    let list = rest.get(2..).unwrap_or(&[]);
+    calls::trail(network, list, byte(0) * 256 + byte(1)).map(String::into_bytes)
 }
 
 /// What follows the network is the fragment asked, and then the sheet.
@@ -81,6 +90,23 @@ fn cases_of_the_judge_counted() {
         if case.call.name == JUDGE.name {
             let counted = line(program(&case.input, 2, 0, census));
             assert!(counted == CENSUS.answer(&case.input), "case {number}");
+        }
+    }
+}
+
+/// With an id put between its records an input of the judge is one of the trail: its lists pass and
+/// fail, and some of its ids are own boxes'.
+#[test]
+fn cases_of_the_judge_traced() {
+    for (number, case) in cases::make().cases.iter().enumerate() {
+        let (network, list) = split(&case.input);
+        if case.call.name != JUDGE.name || list.len() < 9 {
+            continue;
+        }
+        for id in [&list[7..9], &[0, 3]] {
+            let input = [network, id, list].concat();
+            let traced = line(program(&input, 2, 2, trail));
+            assert!(traced == TRAIL.answer(&input), "case {number}");
         }
     }
 }

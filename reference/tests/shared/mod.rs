@@ -55,6 +55,11 @@ pub fn census(plan: &Plan, list: &[Listed]) -> Vec<String> {
     lines(&Input::census(plan, list).answer())
 }
 
+/// The lines of a trail for a plan, the id that names a box, and a list.
+pub fn trail(plan: &Plan, id: u16, list: &[Listed]) -> Vec<String> {
+    lines(&Input::trail(plan, id, list).answer())
+}
+
 /// A line is ASCII and ends in its only line feed.
 pub fn line(output: &[u8]) -> String {
     let mut lines = lines(output);
