@@ -21,7 +21,7 @@ house-choice top = record {
   carry-none = carry-none top;
 }
 
-carried-dearer : (top : ℕ) (p : Policy) (r : Route) → 1 ≤ p .added → (carried top p r ≡ None → ⊥) → costOf r < costOf (carried top p r)
+pub carried-dearer : (top : ℕ) (p : Policy) (r : Route) → 1 ≤ p .added → (carried top p r ≡ None → ⊥) → costOf r < costOf (carried top p r)
 carried-dearer top p None adds present = absurd (present (carry-none top p))
 carried-dearer top p (Held f) adds present = go (carried top p (Held f)) refl present
   where
@@ -30,7 +30,7 @@ carried-dearer top p (Held f) adds present = go (carried top p (Held f)) refl pr
     go (Held g) q here = carry-dearer top p f g adds q
 
 -- A lawful policy adds at least 1, so that those of an adding network are.
-pub house-costs : (top : ℕ) → Costs (house top)
+abbrev pub house-costs : (top : ℕ) → Costs (house top)
 house-costs top = record {
   cost = costOf;
   Lawful = λ (p : Policy). 1 ≤ p .added;
