@@ -1,5 +1,6 @@
 -- The wires as the code reads them: the one at an offset, the one behind it, and what each gives.
 --     wire-froms, wire-behinds, wire-firsts     from one wire to the next
+--     halving                                   where the wires into a box begin
 --     trans-at                                  what a wire makes of a route, by its policy
 --     offers, over-is                           what a wire gives, by its sender's route
 use mathlib.Core.Path.{_≡_, sym, ap, ap₂, _∙_}
@@ -8,6 +9,7 @@ use mathlib.Core.List.{List}
 use mathlib.Core.Logic.{⊎-elim}
 use Prim.Native.Nat.{ℕ, _+_, _^_, _≤_, _<_, zero-le}
 use native.Mathlib.Omega.{arith}
+use lib.Dec.{ltb}
 use lib.ListN.{length, getD}
 use mir.Syntax.{w64}
 use mir.Val.{Fits}
@@ -15,9 +17,12 @@ use borrow.Author.Tests.{lt-ltb, le-ltb}
 use Rattle.lists.specs.Best.{best}
 use Rattle.lists.specs.Rows.{rows}
 use Rattle.lists.specs.Stride.{at}
+use Rattle.lists.proofs.First.{first-le}
+use Rattle.lists.proofs.Rising.{Around, mid, around-start, around-up, around-down, around-end}
 use Rattle.lists.proofs.Rows.{getElem-rows}
 use Rattle.lists.proofs.Test.{le-or-lt}
 use Rattle.numbers.specs.BigEndian.{u16At}
+use Rattle.numbers.proofs.Codecs.{u16-below}
 use Rattle.routes.specs.Carry.{carried, highest}
 use Rattle.routes.specs.Form.{routeAt, policyAt}
 use Rattle.routes.specs.Order.{beats}
@@ -25,12 +30,11 @@ use Rattle.routes.specs.declared.Policy.{Policy}
 use Rattle.routes.specs.declared.Route.{Route}
 use Rattle.reading.specs.House.{house}
 use Rattle.networks.specs.Solution.{mapping, trans}
-use Rattle.records.specs.Edge.{boxed, edgeFrom, edgePolicy}
+use Rattle.records.specs.Edge.{boxed, edgeTo, edgeFrom, edgePolicy}
 use Rattle.layout.specs.Form.{Usable}
-use Rattle.layout.specs.Layout.{nodeCount, edgeCount, policyOffset, policyCount, edgePart, edgeOffset}
+use Rattle.layout.specs.Layout.{nodeCount, edgeCount, policyOffset, policyCount, nodeOffset, edgePart, edgeOffset}
 use Rattle.nodes.specs.Node.{rowOf}
 use Rattle.layout.proofs.Places.{edge-first, edge-after, edge-room, policy-room}
-use Rattle.records.proofs.RowLaws.{row-within, row-found}
 use Rattle.layout.specs.declared.Form.{Form}
 use Rattle.reading.specs.Parts.{wireAt}
 use Rattle.reading.specs.Whole.{readNetwork, readList}
@@ -38,9 +42,10 @@ use Rattle.reading.proofs.Said.{Edge, edge-parts}
 use Rattle.records.specs.Checked.{CheckedNetwork}
 use Rattle.preparing.specs.Parts.{rowPart}
 use Rattle.preparing.specs.Prepared.{Listed, Prepared}
-use Rattle.boxes.specs.Wires.{WireAt, WireEnd, nextFrom, offerAt}
+use Rattle.boxes.specs.Wires.{WireAt, WireEnd, nextFrom, rowInto, offerAt}
 use Rattle.boxes.specs.declared.NextWire.{NextWire}
-use Rattle.preparing.proofs.PartLaws.{row-long, row-route}
+use Rattle.boxes.proofs.IntoLaws.{to-climbs}
+use Rattle.preparing.proofs.PartLaws.{box-part-room, box-part-route}
 use Rattle.preparing.proofs.PreparedLaws.{prepared-listed}
 
 -- the wire at an offset
@@ -81,21 +86,75 @@ pub ruleset wire-froms = (wire-none, wire-some, wire-read)
 
 pub ruleset wire-behinds = (wire-fits, wire-behind)
 
+-- what the offsets ask for
+pub checked-usable : (f : Form) (network : List ℕ) → CheckedNetwork f network → Usable f
+checked-usable f network h = h .room .usable
+
+pub checked-long : (f : Form) (network : List ℕ) → CheckedNetwork f network → 10 ≤ length network
+checked-long f network h = h .room .long
+
 -- the first wire
 module _ (f : Form) (network : List ℕ) (o : ℕ) (e : o ≡ edgeOffset f network 0) where
-  pub first-usable : CheckedNetwork f network → Usable f
-  first-usable h = h .room .usable
-
-  pub first-long : CheckedNetwork f network → 10 ≤ length network
-  first-long h = h .room .long
-
   pub first-end : WireEnd f network o
   first-end = record { row = 0; there = zero-le; at = e }
 
   pub first-is : (w : NextWire) → w ≡ nextFrom network o → w ≡ nextFrom network (edgePart f network)
   first-is w q = q ∙ ap (nextFrom network) (e ∙ edge-first f network)
 
-pub ruleset wire-firsts = (first-usable, first-long, first-end, first-is)
+pub ruleset wire-firsts = (checked-usable, checked-long, first-end, first-is)
+
+-- where the wires into a box begin, by halving
+module _ (f : Form) (network : List ℕ) (checked : CheckedNetwork f network) (id lo hi : ℕ) (a : Around (edgeTo f network) (edgeCount network) id lo hi) where
+  module _ (l : lo < hi) where
+    pub half-place : mid lo hi ≤ 65535
+    half-place = let g = a .high in omega (arith, u16-below network 7 (checked .bytes _, checked .bytes _))
+
+    module _ (base m o : ℕ) (b : base ≡ nodeOffset f network m) (n : m ≡ nodeCount network) (e : o ≡ at base 5 (mid lo hi)) where
+      half-at : o ≡ edgeOffset f network (mid lo hi)
+      unfolding edgeOffset
+      half-at = e ∙ ap (λ (k : ℕ). at k 5 (mid lo hi)) (b ∙ ap (nodeOffset f network) n)
+
+      pub half-room : o + 2 ≤ length network
+      half-room = let g = a .high in omega (arith, half-at, edge-room f network (checked .room) (mid lo hi) (omega arith))
+
+      module _ (to : ℕ) (p : to ≡ u16At network o) where
+        half-to : to ≡ edgeTo f network (mid lo hi)
+        unfolding edgeTo
+        half-to = p ∙ ap (u16At network) half-at
+
+        pub half-up : to < id → Around (edgeTo f network) (edgeCount network) id (mid lo hi + 1) hi
+        half-up t = around-up (edgeTo f network) (edgeCount network) id lo hi a to (to-climbs f network checked) l half-to t
+
+        pub half-down : id ≤ to → Around (edgeTo f network) (edgeCount network) id lo (mid lo hi)
+        half-down t = around-down (edgeTo f network) (edgeCount network) id lo hi a to (to-climbs f network checked) l half-to t
+
+  pub half-end : hi ≤ lo → lo ≡ rowInto f network id
+  unfolding rowInto
+  half-end l = around-end (edgeTo f network) (edgeCount network) id lo hi a l
+
+pub half-start : (f : Form) (network : List ℕ) (id n m : ℕ) → n ≡ m → m ≡ edgeCount network → Around (edgeTo f network) (edgeCount network) id 0 n
+half-start f network id n m p q = rw (p ∙ q) (around-start (edgeTo f network) (edgeCount network) id)
+
+-- the first wire to a box with this id or a higher one
+module _ (f : Form) (network : List ℕ) (id j o : ℕ) (q : j ≡ rowInto f network id) (e : o ≡ edgeOffset f network j) where
+  into-row : j ≤ edgeCount network
+  unfolding rowInto
+  into-row = rw q (first-le (λ k. ltb (edgeTo f network k) id) (edgeCount network))
+
+  pub into-end : WireEnd f network o
+  into-end = record { row = j; there = into-row; at = e }
+
+  pub into-is : (w : NextWire) → w ≡ nextFrom network o → w ≡ nextFrom network (edgeOffset f network (rowInto f network id))
+  into-is w p = p ∙ ap (nextFrom network) (e ∙ ap (edgeOffset f network) q)
+
+pub into-place : (f : Form) (network : List ℕ) → CheckedNetwork f network → (id j : ℕ) → j ≡ rowInto f network id → j ≤ 65535
+unfolding rowInto
+into-place f network checked id j q =
+    omega (arith, q, first-le (λ k. ltb (edgeTo f network k) id) (edgeCount network), u16-below network 7 (checked .bytes _, checked .bytes _))
+
+pub ruleset halving = (checked-usable, checked-long, half-start, half-place, half-room, half-up, half-down, half-end)
+
+pub ruleset wire-intos = (checked-usable, checked-long, into-end, into-is, into-place)
 
 -- what the wire at an offset makes of a route
 trans-at : (f : Form) (network : List ℕ) (o : ℕ) (r : Route) → getD network (o + 4) 0 < policyCount network
@@ -143,19 +202,8 @@ module _ (f : Form) (network list rows stands : List ℕ) (h : Prepared f networ
     offer-sender = rw (q, w .at) (edge .from-there)
 
     module _ (x : List ℕ) (g : x ≡ rowPart f network list (rowOf f network id)) where
-      sender-row : rowOf f network id < nodeCount network
-      sender-row = row-within f network id offer-sender
-
       pub offer-part-room : 0 + f .route ≤ length x
-      offer-part-room =
-          let e = ap length g ∙ row-long f network list _ (listed .checked .room) (listed .entries .formed) sender-row (listed .entered _ sender-row) in
-          omega arith
-
-      sender-route : routeAt (f .route) x 0 ≡ mapping (house highest) (readNetwork f network) (readList f list) id
-      sender-route =
-          ap (λ (b : List ℕ). routeAt (f .route) b 0) g
-          ∙ row-route f network list _ (listed .checked .room) (listed .entries .formed) sender-row (listed .entered _ sender-row) (listed .checked .rising)
-          ∙ ap (mapping (house highest) (readNetwork f network) (readList f list)) (row-found f network id offer-sender)
+      offer-part-room = box-part-room f network list listed id offer-sender x g
 
       -- and the policy
       module _ (k p : ℕ) (c : Policy) (v : k ≡ getD network (o + 4) 0) (z : p ≡ policyOffset k) where
@@ -164,7 +212,7 @@ module _ (f : Form) (network list rows stands : List ℕ) (h : Prepared f networ
         offer-is r s d y t =
             t ∙ ap₂ (carried 65535)
             (d ∙ ap (policyAt network) (z ∙ ap policyOffset v))
-            (y ∙ sender-route ∙ ap (mapping (house highest) (readNetwork f network) (readList f list)) q)
+            (y ∙ box-part-route f network list listed id offer-sender x g ∙ ap (mapping (house highest) (readNetwork f network) (readList f list)) q)
             ∙ sym (trans-at f network o _ policy-there)
 
 pub ruleset offers = (offer-from-room, offer-policy-room, offer-from-fits, offer-policy-fits, offer-wide, offer-sender, offer-part-room, offer-policy, offer-is)

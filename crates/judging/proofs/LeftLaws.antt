@@ -1,5 +1,5 @@
 -- What the search has still to look at, and what it comes to.
---     wiresFrom, boxesFrom     the wires and boxes that are still to be looked at
+--     boxesFrom                the boxes that are still to be looked at
 --     Skipped                  for every id from a least one on, only the wires from j on matter
 --     Due                      what the wires from j on make of a route is the due route
 --     stoppedAt                the verdict where a box was judged
@@ -43,8 +43,10 @@ use Rattle.reading.specs.Parts.{boxAt, wireAt, promiseAt, demandAt}
 use Rattle.reading.specs.Whole.{HouseNetwork, HouseList, readNetwork, readList}
 use Rattle.routes.specs.Carry.{highest}
 use Rattle.judging.specs.Judging.{verdictAt}
+use Rattle.records.specs.Checked.{CheckedNetwork}
 use Rattle.boxes.specs.OwnBox.{faultOf}
 use Rattle.boxes.specs.Wires.{givenBy, offerAt}
+use Rattle.boxes.proofs.IntoLaws.{wiresFrom, into, wires-start, wire-other, wire-mine, wires-past}
 
 module _ (f : Form) (network list : List ℕ) where
   abbrev N : HouseNetwork
@@ -53,26 +55,19 @@ module _ (f : Form) (network list : List ℕ) where
   abbrev L : HouseList
   L = readList f list
 
-  abbrev pub wiresFrom : ℕ → List Wire
-  wiresFrom j = rows (wireAt network) 5 (at (edgePart f network) 5 j) (edgeCount network - j)
-
   abbrev pub boxesFrom : ℕ → List (Box Route Demand)
   boxesFrom i = rows (boxAt (f .route) network) (nodeWidth f) (at (nodePart network) (nodeWidth f) i) (nodeCount network - i)
 
-  -- the wires into a box among these
-  abbrev pub into : ℕ → List Wire → List Wire
-  into node ws = filter (λ (w : Wire). eqb (w .to) node) ws
-
   -- the best of a route and what these wires give a box
   abbrev pub dueOver : ℕ → Route → List Wire → Route
-  dueOver node r ws = bestOf (house highest) r (map (givenBy f network list) (into node ws))
+  dueOver node r ws = bestOf (house highest) r (map (givenBy f network list) (into f network node ws))
 
   pub record Skipped (j lo : ℕ) : Type 0 where
-    pub skipped : (node : ℕ) → lo ≤ node → into node (N .wires) ≡ into node (wiresFrom j)
+    pub skipped : (node : ℕ) → lo ≤ node → into f network node (N .wires) ≡ into f network node (wiresFrom f network j)
 
   -- the due route of a box with an initial route, from the wires that are left
   pub record Due (node : ℕ) (initial r : Route) (j : ℕ) : Type 0 where
-    pub is : dueOver node initial (N .wires) ≡ dueOver node r (wiresFrom j)
+    pub is : dueOver node initial (N .wires) ≡ dueOver node r (wiresFrom f network j)
 
   pub record Left (i count : ℕ) : Type 0 where
     pub is : given (verdictFrom (house highest) N L count (filterMap asOwn (boxesFrom i))) ≡ verdictAt f network list
@@ -81,16 +76,12 @@ module _ (f : Form) (network list : List ℕ) where
   abbrev pub stoppedAt : Option (Finding Route) → ℕ → ℕ → ℕ → Answer (Verdict Route)
   stoppedAt y node count i = given (stop (house highest) y node count (verdictFrom (house highest) N L count (filterMap asOwn (boxesFrom i))))
 
-  wires-start : N .wires ≡ wiresFrom 0
-  unfolding readNetwork
-  wires-start = ap₂ (rows (wireAt network) 5) (sym (at-zero (edgePart f network) 5)) (sym (sub-zero (edgeCount network)))
-
   boxes-start : N .boxes ≡ boxesFrom 0
   unfolding readNetwork
   boxes-start = ap₂ (rows (boxAt (f .route) network) (nodeWidth f)) (sym (at-zero (nodePart network) (nodeWidth f))) (sym (sub-zero (nodeCount network)))
 
   pub skip-start : (lo : ℕ) → Skipped 0 lo
-  skip-start lo = record { skipped = λ node l. ap (into node) wires-start }
+  skip-start lo = record { skipped = λ node l. ap (into f network node) (wires-start f network) }
 
   pub left-start : Left 0 0
   unfolding verdictAt
@@ -98,50 +89,23 @@ module _ (f : Form) (network list : List ℕ) where
 
   -- one wire
   module _ (j : ℕ) (l : j < edgeCount network) where
-    one : wiresFrom j ≡ wireAt network (at (edgePart f network) 5 j) ∷ wiresFrom (j + 1)
-    one = rows-next (wireAt network) 5 (edgePart f network) (edgeCount network) j l
-
-    other : (node : ℕ) → (edgeTo f network j ≡ node → ⊥) → into node (wiresFrom j) ≡ into node (wiresFrom (j + 1))
-    unfolding edgeTo edgeOffset wireAt
-    other node n = ap (into node) one ∙ rw (ne-eqb (u16At network (at (edgePart f network) 5 j)) node n)
-
-    mine : (node : ℕ) → edgeTo f network j ≡ node → into node (wiresFrom j) ≡ wireAt network (at (edgePart f network) 5 j) ∷ into node (wiresFrom (j + 1))
-    unfolding edgeTo edgeOffset wireAt
-    mine node e = ap (into node) one ∙ rw (eq-eqb (u16At network (at (edgePart f network) 5 j)) node e)
-
     pub wire-skips : (node : ℕ) → edgeTo f network j ≤ node → Skipped j (node + 1) → Skipped (j + 1) (node + 1)
-    wire-skips node m k = record { skipped = λ x g. k .skipped x g ∙ other x (λ e. omega arith) }
+    wire-skips node m k = record { skipped = λ x g. k .skipped x g ∙ wire-other f network j l x (λ e. omega arith) }
 
     pub wire-due : (node : ℕ) (initial r x : Route) → edgeTo f network j ≡ node → x ≡ best beats r (offerAt f network list (edgeOffset f network j))
         → Due node initial r j → Due node initial x (j + 1)
-    unfolding offerAt edgeOffset
+    unfolding offerAt
     wire-due node initial r x e q d = record {
       is = d .is
-          ∙ ap (λ (ws : List Wire). bestOf (house highest) r (map (givenBy f network list) ws)) (mine node e)
-          ∙ ap (λ (y : Route). dueOver node y (wiresFrom (j + 1))) (sym q);
+          ∙ ap (λ (ws : List Wire). bestOf (house highest) r (map (givenBy f network list) ws)) (wire-mine f network j l node e)
+          ∙ ap (λ (y : Route). dueOver node y (wiresFrom f network (j + 1))) (sym q);
     }
 
-  -- past the last wire into a box: edges rise by their to end first
-  module _ (small : Bytes network) (sorted : (k : ℕ) → k < edgeCount network → least (edgeKey f network) k ≤ edgeKey f network k) where
-    pub to-rises : (j : ℕ) → j + 1 < edgeCount network → edgeTo f network j ≤ edgeTo f network (j + 1)
-    unfolding edgeKey edgeFrom
-    to-rises j l =
-        let h = sorted (j + 1) l in
-        let e = least-next (edgeKey f network) j in
-        let b = u16-below network (edgeOffset f network (j + 1) + 2) (small _, small _) in
-        omega arith
-
-    past : (node m j : ℕ) → j + m ≡ edgeCount network → (j < edgeCount network → node < edgeTo f network j) → into node (wiresFrom j) ≡ []
-    past node zero j q h = ap (into node) (rows-end (wireAt network) 5 (edgePart f network) (edgeCount network) j (omega arith))
-    past node (suc m) j q h =
-        let here : node < edgeTo f network j = h (omega arith) in
-        other j (omega arith) node (λ e. omega arith)
-        ∙ past node m (j + 1) (omega arith) (λ l. let r = to-rises j l in omega arith)
-
-    pub wires-past : (node j : ℕ) (initial r : Route) → j ≤ edgeCount network → (j < edgeCount network → node < edgeTo f network j) → Due node initial r j
-        → dueOver node initial (N .wires) ≡ r
-    wires-past node j initial r l h d =
-        d .is ∙ ap (λ (ws : List Wire). bestOf (house highest) r (map (givenBy f network list) ws)) (past node (edgeCount network - j) j (omega arith) h)
+  -- past the last wire into a box
+  pub due-past : CheckedNetwork f network → (node j : ℕ) (initial r : Route) → j ≤ edgeCount network → (j < edgeCount network → node < edgeTo f network j)
+      → Due node initial r j → dueOver node initial (N .wires) ≡ r
+  due-past checked node j initial r l h d =
+      d .is ∙ ap (λ (ws : List Wire). bestOf (house highest) r (map (givenBy f network list) ws)) (wires-past f network checked node j l h)
 
   -- one box
   pub skip-more : (j lo hi : ℕ) → lo ≤ hi → Skipped j lo → Skipped j hi

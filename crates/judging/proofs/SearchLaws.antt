@@ -45,7 +45,8 @@ use Rattle.boxes.specs.declared.Fault.{Fault}
 use Rattle.boxes.specs.declared.Fault.the-variants.{NoFault, FaultDue, FaultPromise, FaultDemand}
 use Rattle.boxes.specs.declared.NextWire.{NextWire}
 use Rattle.boxes.specs.declared.OwnBox.{OwnBox}
-use Rattle.judging.proofs.LeftLaws.{stoppedAt, Skipped, Due, Left, skip-start, left-start, wire-skips, wire-due, to-rises, wires-past, skip-more, due-start, left-end, left-input, left-fault}
+use Rattle.judging.proofs.LeftLaws.{stoppedAt, Skipped, Due, Left, skip-start, left-start, wire-skips, wire-due, due-past, skip-more, due-start, left-end, left-input, left-fault}
+use Rattle.boxes.proofs.IntoLaws.{to-climbs, NextAt, next-at, next-there, next-into, next-wire, next-less, next-next, next-past}
 use Rattle.preparing.proofs.PreparedLaws.{prepared-standing, prepared-checked}
 
 -- The next wire is the j-th, and those before it lead to boxes below lo.
@@ -111,9 +112,6 @@ module _ (f : Form) (network : List ℕ) (checked : CheckedNetwork f network) wh
 
   edge : (j : ℕ) → j < edgeCount network → Edge f network j
   edge j l = edge-parts f network j (checked .sound .edges j l)
-
-  edges-rise : (j : ℕ) → j < edgeCount network → least (edgeKey f network) j ≤ edgeKey f network j
-  edges-rise j l = edge j l .rises
 
   -- the wires lead to own boxes, and so to none between two boxes
   module _ (i j : ℕ) (l : i < nodeCount network) (a : Ahead f network (least (nodeId f network) i) j) (m : j < edgeCount network) where
@@ -252,47 +250,28 @@ module _ (f : Form) (network list rows stands : List ℕ) (n i count row node : 
   pub wiring-own : isOwn f network row ≡ true
   wiring-own = w .own
 
-  wire-at : wire .at ≡ edgeOffset f network (w .j)
-  unfolding nextFrom
-  wire-at = ap (λ (x : NextWire). x .at) (w .next .is)
-
-  -- the next wire's to end, by whether there is one
-  to-there : w .j < edgeCount network → wire .to ≡ edgeTo f network (w .j)
-  unfolding nextFrom edgeTo
-  to-there l =
-      ap (λ (x : NextWire). x .to) (w .next .is)
-      ∙ rw (lt-ltb (edgeOffset f network (w .j)) (length network) (let r = edge-room f network (wiring-checked .room) (w .j) l in omega arith))
-
-  to-none : edgeCount network ≤ w .j → wire .to ≡ 65536
-  unfolding nextFrom
-  to-none l =
-      let last : w .j ≡ edgeCount network = let k = w .next .within in omega arith in
-      ap (λ (x : NextWire). x .to) (w .next .is)
-      ∙ rw (le-ltb (edgeOffset f network (w .j)) (length network) (let e = wiring-checked .sound .whole in omega (arith, ap (edgeOffset f network) last)))
+  next : NextAt f network wire (w .j)
+  next = record { within = w .next .within; is = w .next .is }
 
   module _ (k : ℕ) (q : k ≡ node) (small : k < 65536) where
     -- a wire into the box
     module _ (e : wire .to ≡ k) where
       there : w .j < edgeCount network
-      there = ⊎-elim (λ (g : edgeCount network ≤ w .j). absurd (let z = to-none g in omega arith)) (λ g. g) (le-or-lt (edgeCount network) (w .j))
+      there = next-there f network wiring-checked wire (w .j) next k small e
 
       mine : edgeTo f network (w .j) ≡ node
-      mine = sym (to-there there) ∙ e ∙ q
+      mine = next-into f network wiring-checked wire (w .j) next k small e ∙ q
 
       pub wiring-wire : WireAt f network (wire .at)
-      wiring-wire = record { row = w .j; there = there; at = wire-at }
+      wiring-wire = next-wire f network wiring-checked wire (w .j) next k small e
 
-      module _ (next : NextWire) (g : next ≡ nextFrom network (wire .at + 5)) where
-        pub wiring-less : length network - next .at < length network - wire .at
-        unfolding nextFrom
-        wiring-less =
-            let a : next .at ≡ wire .at + 5 = ap (λ (x : NextWire). x .at) g in
-            let r = edge-room f network (wiring-checked .room) (w .j) there in
-            omega (arith, wire-at)
+      module _ (behind : NextWire) (g : behind ≡ nextFrom network (wire .at + 5)) where
+        pub wiring-less : length network - behind .at < length network - wire .at
+        wiring-less = next-less f network wiring-checked wire (w .j) next k small e behind g
 
-        pub wiring-next : (x : Route) → x ≡ best beats u (offerAt f network list (wire .at)) → Wiring f network list rows stands n i count row node x next
+        pub wiring-next : (x : Route) → x ≡ best beats u (offerAt f network list (wire .at)) → Wiring f network list rows stands n i count row node x behind
         unfolding Wiring
-        wiring-next x y = record {
+        wiring-next x y = let after = next-next f network wiring-checked wire (w .j) next k small e behind g in record {
           prepared = w .prepared;
           there = w .there;
           nodes = w .nodes;
@@ -305,28 +284,24 @@ module _ (f : Form) (network list rows stands : List ℕ) (n i count row node : 
           left = w .left;
           j = w .j + 1;
           next = record {
-            within = let l = there in omega arith;
-            is = g ∙ ap (nextFrom network) (ap (λ (o : ℕ). o + 5) wire-at ∙ sym (edge-after f network (w .j)));
+            within = after .within;
+            is = after .is;
             skipped = wire-skips f network list (w .j) there node (let z = mine in omega arith) (w .next .skipped);
           };
-          ahead = λ m. let z = mine in omega (arith, to-rises f network list (wiring-checked .bytes) (edges-rise f network wiring-checked) (w .j) m);
-          due = wire-due f network list (w .j) there node _ u x mine (y ∙ ap (λ (o : ℕ). best beats u (offerAt f network list o)) wire-at) (w .due);
+          ahead = λ m. let z = mine in omega (arith, to-climbs f network wiring-checked (w .j) (w .j + 1) (omega arith) m);
+          due = wire-due f network list (w .j) there node _ u x mine (y ∙ ap (λ (o : ℕ). best beats u (offerAt f network list o)) (next-at f network wiring-checked wire (w .j) next)) (w .due);
         }
 
     -- no further wire into the box
     module _ (ne : wire .to ≡ k → ⊥) where
       past : w .j < edgeCount network → node < edgeTo f network (w .j)
-      past m =
-          let a = w .ahead m in
-          let e = to-there m in
-          let z : edgeTo f network (w .j) ≡ node → ⊥ = λ p. ne (e ∙ p ∙ sym q) in
-          omega arith
+      past m = rw (← q) (next-past f network wiring-checked wire (w .j) next k small ne (λ l. rw q (w .ahead l)) m)
 
       -- what the fault at the box makes of the verdict
       at-fault : (o : Option (Finding Route)) → o ≡ faultOf f network row (held (house highest) (readList f list) (nodeId f network row)) u
           → stoppedAt f network list o node (w .before + 1) (row + 1) ≡ verdictAt f network list
       at-fault o e = left-fault f network list row (w .before) (w .left) wiring-row (w .own) node _ _ u o (w .named) refl refl
-          (wires-past f network list (wiring-checked .bytes) (edges-rise f network wiring-checked) node (w .j) _ u (w .next .within) past (w .due)) e
+          (due-past f network list wiring-checked node (w .j) _ u (w .next .within) past (w .due)) e
 
       module _ (r : Fault) (a : findingOf r ≡ faultOf f network row (held (house highest) (readList f list) (nodeId f network row)) u) where
         at-found : (number : ℕ) (route : Route) → some (record { number = number; route = route }) ≡ findingOf r

@@ -1,9 +1,9 @@
 -- What the code's proofs cite, in the order of the code.
---     splitting                     the ways of first_length
+--     splitting, naming             the ways of first_length, and of an id behind the first record
 --     byte-out, putting             a byte, and a word byte by byte
 --     numbering                     a number's digits
 --     adding                        numbers, each behind a space
---     wording                       words behind words: a route's, a line's
+--     wording                       words behind words: a route's, a line's, a box's
 use mathlib.Core.Path.{_≡_, refl, sym, ap, _∙_}
 use mathlib.Core.List.{List, [], _∷_, _++_, map, map-append}
 use Prim.Native.Nat.{ℕ, _+_, _-_, _*_, _^_, _≤_, _<_}
@@ -15,14 +15,14 @@ use lib.Seq.{sets, set-out, take-suc, take-all, length-take-le}
 use borrow.Author.Tests.{lt-ltb, le-ltb}
 use Rattle.io.specs.Digits.{digits, Fewest}
 use Rattle.lists.proofs.Laid.{sets-append}
-use Rattle.numbers.specs.BigEndian.{u32At}
+use Rattle.numbers.specs.BigEndian.{u16At, u32At}
 use Rattle.numbers.specs.Decimal.{decimal}
 use Rattle.numbers.proofs.DecimalLaws.{decimal-short, fewest-decimal}
 use Rattle.routes.specs.declared.Fields.{Fields}
 use Rattle.routes.specs.declared.Route.{Route}
 use Rattle.routes.specs.declared.Route.the-variants.{None, Held}
-use Rattle.lines.specs.Split.{firstLength}
-use Rattle.lines.specs.Line.{text, spaced, routeWords, passLine, refusedLine, foundLine, lineBytes}
+use Rattle.lines.specs.Split.{firstLength, namedOf}
+use Rattle.lines.specs.Line.{text, spaced, routeWords, passLine, refusedLine, foundLine, boxLine, lineBytes}
 use Rattle.lines.specs.Written.{Written}
 use Rattle.lines.specs.declared.Line.{Line}
 use Rattle.lines.specs.declared.Line.the-variants.{Pass, Refused, Found}
@@ -44,6 +44,20 @@ module _ (b : List ℕ) where
     split-within h = rw (le-ltb (length b) 4 long, ← e) (sym (min-eq-left (omega arith)))
 
 pub ruleset splitting = (split-short, split-past, split-within)
+
+-- an id behind the first record
+pub named-none : (rest : List ℕ) → length rest ≡ 0 → 0 ≡ namedOf rest
+unfolding u16At
+named-none [] e = refl
+named-none (x ∷ xs) e = absurd (omega arith)
+
+pub named-one : (rest : List ℕ) (r : ℕ) → length rest ≡ 1 → r ≡ u16At (getD rest 0 0 ∷ 0 ∷ []) 0 → r ≡ namedOf rest
+unfolding u16At
+named-one [] r e q = absurd (omega arith)
+named-one (x ∷ []) r e q = q
+named-one (x ∷ (y ∷ ys)) r e q = absurd (omega arith)
+
+pub ruleset naming = (named-none, named-one)
 
 -- a byte behind the room's end
 pub byte-out : (room : List ℕ) (at byte : ℕ) → length room ≤ at → room ≡ set room at byte
@@ -166,4 +180,10 @@ module _ (a b c d : List ℕ) (i j k l : ℕ) where
       rw q (written-line a b c d i j k l (text "found") (decimal number ∷ decimal node ∷ decimal judged ∷ routeWords route) f
       (written-words b m c (decimal number ∷ decimal node ∷ decimal judged ∷ []) (routeWords route) j n k w r) e)
 
-pub ruleset wording = (route-none, route-held, line-pass, line-refused, line-found)
+-- a box, by its id as the code widens it
+pub box-put : (a b c d : List ℕ) (i j k l wide id : ℕ) (route : Route) → wide ≡ id → Written (decimal wide) a i b j
+    → Written (spaced (routeWords route)) b j c k → Written (text "\n") c k d l → Written (boxLine id route) a i d l
+unfolding boxLine
+box-put a b c d i j k l wide id route e f w n = rw (← e) (written-line a b c d i j k l (decimal wide) (routeWords route) f w n)
+
+pub ruleset wording = (route-none, route-held, line-pass, line-refused, line-found, box-put)

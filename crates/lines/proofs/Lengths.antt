@@ -7,7 +7,9 @@ use Rattle.numbers.specs.Decimal.{decimal}
 use Rattle.numbers.proofs.DecimalLaws.{decimal-short}
 use Rattle.routes.specs.declared.Route.{Route}
 use Rattle.routes.specs.declared.Route.the-variants.{None, Held}
-use Rattle.lines.specs.Line.{text, spaced, line, routeWords, passLine, refusedLine, foundLine, longestLine}
+use Rattle.lines.specs.Line.{text, spaced, line, routeWords, passLine, refusedLine, foundLine, boxLine, lineBytes, longestLine, longestBoxLine}
+use Rattle.lines.specs.declared.Line.{Line}
+use Rattle.lines.specs.declared.Line.the-variants.{Pass, Refused, Found}
 
 -- every word is no longer than 20 bytes
 abbrev pub Short : List (List ℕ) → Type 0
@@ -43,5 +45,20 @@ found-length number node judged route =
     let r = route-short route in
     let h = line-short (text "found") (decimal number ∷ decimal node ∷ decimal judged ∷ routeWords route)
     (decimal-short number, (decimal-short node, (decimal-short judged, r .0))) in
+    let few = r .1 in
+    omega arith
+
+pub line-length : (l : Line) → length (lineBytes l) ≤ longestLine
+unfolding lineBytes
+line-length (Pass judged) = pass-length judged
+line-length (Refused number place) = refused-length number place
+line-length (Found number node judged route) = found-length number node judged route
+
+pub box-length : (id : ℕ) (route : Route) → length (boxLine id route) ≤ longestBoxLine
+unfolding boxLine
+box-length id route =
+    let r = route-short route in
+    let h = line-short (decimal id) (routeWords route) (r .0) in
+    let d = decimal-short id in
     let few = r .1 in
     omega arith

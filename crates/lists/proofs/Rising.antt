@@ -1,17 +1,19 @@
 -- A table of ids that rise strictly, by place.
 --     least-.., place-..    the least id that may stand at a place; where an id stands, by a search from the front
 --     Between, mid-..       what a search by halving knows
+--     Climbing, Around, around-..     the same of ids that may repeat, for the first that is not below another
 use Prim.Native.Nat.{ℕ, zero, suc, _+_, _-_, _/_, _<_, _≤_, zero-le}
 use native.Mathlib.Nat.{le-of-suc-le-suc, not-suc-le-zero, eq-or-lt-of-le}
 use native.Mathlib.Numerals.{add-one}
 use native.Mathlib.Omega.{arith}
 use mathlib.Core.Bool.{not}
 use mathlib.Core.Logic.{⊎-elim}
-use mathlib.Core.Path.{_≡_, refl, ap, sym}
-use lib.Dec.{eqb}
-use borrow.Author.Tests.{eq-eqb, ne-eqb, eqb-true, not-false}
+use mathlib.Core.Path.{_≡_, refl, ap, sym, _∙_}
+use lib.Dec.{eqb, ltb}
+use borrow.Author.Tests.{eq-eqb, ne-eqb, eqb-true, not-false, lt-ltb, le-ltb}
 use Rattle.lists.proofs.First.{first-here, first-none, first-fails, first-ext}
 use Rattle.lists.proofs.Test.{le-or-lt}
+use Rattle.lists.specs.First.{firstBad}
 use Rattle.lists.specs.Rising.{Rising, least, place}
 
 pub least-start : (ids : ℕ → ℕ) → 0 ≡ least ids 0
@@ -119,3 +121,49 @@ unfolding place
 between-none {ids} {n} {x} {lo} {hi} b l =
     first-none (λ k. not (eqb (ids k) x)) n
     (λ k p. simp (ne-eqb (ids k) x (λ q. ⊎-elim (λ (s : hi ≤ k). let z = b .above k s p in omega arith) (λ (s : k < hi). let z = b .below k (omega arith) in omega arith) (le-or-lt hi k))))
+
+-- ids that do not fall
+abbrev pub Climbing : (ℕ → ℕ) → ℕ → Type 0
+Climbing ids n = (p q : ℕ) → p ≤ q → q < n → ids p ≤ ids q
+
+-- the ids below lo are below x, and those from hi on are not
+pub record Around (ids : ℕ → ℕ) (n x lo hi : ℕ) : Type 0 where
+  pub low : lo ≤ hi
+  pub high : hi ≤ n
+  pub below : (k : ℕ) → k < lo → ids k < x
+  pub above : (k : ℕ) → hi ≤ k → k < n → x ≤ ids k
+
+pub around-start : (ids : ℕ → ℕ) (n x : ℕ) → Around ids n x 0 n
+around-start ids n x = record {
+  low = zero-le;
+  high = omega arith;
+  below = λ k l. absurd (not-suc-le-zero l);
+  above = λ k l m. absurd (let z : n < n = omega arith in omega arith);
+}
+
+module _ (ids : ℕ → ℕ) (n x lo hi : ℕ) (a : Around ids n x lo hi) where
+  module _ (y : ℕ) (c : Climbing ids n) (l : lo < hi) (e : y ≡ ids (mid lo hi)) where
+    pub around-up : y < x → Around ids n x (mid lo hi + 1) hi
+    around-up t = let g = a .high in record {
+      low = omega arith;
+      high = g;
+      below = λ k p. let z = c k (mid lo hi) (omega arith) (omega arith) in omega arith;
+      above = a .above;
+    }
+
+    pub around-down : x ≤ y → Around ids n x lo (mid lo hi)
+    around-down t = let g = a .high in record {
+      low = omega arith;
+      high = omega arith;
+      below = a .below;
+      above = λ k p q. let z = c (mid lo hi) k p q in omega arith;
+    }
+
+  pub around-end : hi ≤ lo → lo ≡ firstBad (λ k. ltb (ids k) x) n
+  around-end l =
+      let g = a .high in
+      let h = a .low in
+      ⊎-elim
+      (λ (s : n ≤ lo). (let z : lo ≡ n = omega arith in z) ∙ sym (first-none (λ k. ltb (ids k) x) n (λ k p. lt-ltb (ids k) x (a .below k (omega arith)))))
+      (λ (s : lo < n). sym (first-here (λ k. ltb (ids k) x) n lo s (λ k p. lt-ltb (ids k) x (a .below k p)) (le-ltb (ids lo) x (a .above lo (omega arith) s))))
+      (le-or-lt n lo)

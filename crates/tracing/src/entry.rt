@@ -1,9 +1,10 @@
 // The trail of a box by two records, and by a program's input.
 ghost use mathlib.Core.Path.{_≡_};
 ghost use mathlib.Core.Bool.{true};
+ghost use Prim.Native.Nat.{_≤_};
 ghost use lib.ListN.{length};
 ghost use Rattle.lists.specs.Laid.{placed};
-ghost use Rattle.records.specs.Edge.{boxed};
+ghost use Rattle.records.specs.Edge.{owned};
 ghost use Rattle.preparing.specs.Prepared.{Prepared};
 ghost use Rattle.tracing.specs.Tracing.{shownAt, Passing};
 ghost use Rattle.tracing.specs.Text.{trailFrom, shownText, trailOutput, longestTrail, trailText};
@@ -49,16 +50,18 @@ fn place_trail<'a>(
     out: &mut [u8],
 ) -> usize
     requires { ⌜ Prepared form (now network) (now list) (now rows) (now stands) × Passing form (now network) (now list) ⌝ }
-    requires { ⌜ boxed form (now network) id ≡ true ⌝ }
+    requires { ⌜ owned form (now network) id ≡ true ⌝ }
     ensures count { λ r. ⌜ r ≡ length (trailFrom form (now (network .entry)) (now (list .entry)) id) ⌝ }
+    ensures short { λ r. ⌜ r ≤ longestTrail ⌝ }
     ensures text { λ _. ⌜ now (out .exit) ≡ placed (trailFrom form (now (network .entry)) (now (list .entry)) id) (now (out .entry)) ⌝ }
 {
-    if out.len() < longest_trail() {
-        let mut none = [0u8; 0];
-        let length = put_trail(form, network, list, rows, stands, id, &mut none, 0);
-        if out.len() < length {
-            return length;
-        }
+    if longest_trail() <= out.len() {
+        return put_trail(form, network, list, rows, stands, id, out, 0);
+    }
+    let mut none = [0u8; 0];
+    let length = put_trail(form, network, list, rows, stands, id, &mut none, 0);
+    if out.len() < length {
+        return length;
     }
     put_trail(form, network, list, rows, stands, id, out, 0)
 }
@@ -75,6 +78,7 @@ fn place_shown<'a>(
 ) -> usize
     requires { ⌜ Prepared form (now network) (now list) (now rows) (now stands) ⌝ }
     ensures count { λ r. ⌜ r ≡ length (shownText form (now (network .entry)) (now (list .entry)) (shownAt form (now (network .entry)) (now (list .entry)) id)) ⌝ }
+    ensures short { λ r. ⌜ r ≤ longestTrail ⌝ }
     ensures text { λ _. ⌜ now (out .exit) ≡ placed (shownText form (now (network .entry)) (now (list .entry)) (shownAt form (now (network .entry)) (now (list .entry)) id)) (now (out .entry)) ⌝ }
 {
     if !is_owned(form, network, rows, id) {
@@ -91,6 +95,7 @@ fn place_shown<'a>(
 // is refused or fails, or number 18. Answers their length.
 pub fn trail<'a>(network: &'a [u8], list: &'a [u8], id: u16, out: &mut [u8]) -> usize
     ensures count { λ r. ⌜ r ≡ length (trailOutput (now (network .entry)) (now (list .entry)) id) ⌝ }
+    ensures short { λ r. ⌜ r ≤ longestTrail ⌝ }
     ensures text { λ _. ⌜ now (out .exit) ≡ placed (trailOutput (now (network .entry)) (now (list .entry)) id) (now (out .entry)) ⌝ }
 {
     let mut rows = [0u16; 65536];
@@ -104,6 +109,7 @@ pub fn trail<'a>(network: &'a [u8], list: &'a [u8], id: u16, out: &mut [u8]) -> 
 // What the tracing program prints when it reads these bytes: its length, and the text itself at the start of out where it fits.
 pub fn trail_bytes(input: &[u8], out: &mut [u8]) -> usize
     ensures count { λ r. ⌜ r ≡ length (trailText (now (input .entry))) ⌝ }
+    ensures short { λ r. ⌜ r ≤ longestTrail ⌝ }
     ensures text { λ _. ⌜ now (out .exit) ≡ placed (trailText (now (input .entry))) (now (out .entry)) ⌝ }
 {
     let longest = longest_naming();

@@ -1,13 +1,13 @@
 // The walk back along a trail.
 ghost use mathlib.Core.Path.{_≡_};
 ghost use mathlib.Core.Bool.{true};
-ghost use Prim.Native.Nat.{_+_, _*_, _^_, _<_};
+ghost use Prim.Native.Nat.{_+_, _^_, _<_};
+ghost use lib.ListN.{length};
 ghost use Rattle.records.specs.Edge.{boxed};
-ghost use Rattle.reading.specs.Adding.{costOf};
 ghost use Rattle.lines.specs.Line.{longestBoxLine};
 ghost use Rattle.lines.specs.Written.{Written};
 ghost use Rattle.preparing.specs.Prepared.{Prepared};
-ghost use Rattle.tracing.specs.Tracing.{holding, Passing};
+ghost use Rattle.tracing.specs.Tracing.{Passing};
 ghost use Rattle.tracing.specs.Text.{trailFrom};
 use crate::Sender;
 use crate::senders::held;
@@ -17,7 +17,7 @@ use layout::ROWS;
 use lines::put_box;
 
 // Puts the lines of the trail back from a box into a lent room. Every wire adds to a route's cost, so that the sender holds a cheaper one: the
-// walk ends, and its lines are no more than the cost and one.
+// cost falls at each call, and the walk ends.
 pub fn put_trail<'a>(
     form: Form,
     network: &'a [u8],
@@ -30,7 +30,7 @@ pub fn put_trail<'a>(
 ) -> usize
     requires { ⌜ Prepared form (now network) (now list) (now rows) (now stands) × Passing form (now network) (now list) ⌝ }
     requires { ⌜ boxed form (now network) id ≡ true ⌝ }
-    requires { ⌜ at + longestBoxLine * (costOf (holding form (now network) (now list) id) + 1) < 2 ^ 64 ⌝ }
+    requires { ⌜ at + (length (trailFrom form (now network) (now list) id) + longestBoxLine) < 2 ^ 64 ⌝ }
     ensures { λ r. ⌜ Written (trailFrom form (now (network .entry)) (now (list .entry)) id) (now (room .entry)) at (now (room .exit)) r ⌝ }
 {
     let route = held(form, network, list, rows, stands, id);

@@ -138,7 +138,7 @@ module _ (𝓐 : Algebra) where
       pub own-held : All (λ (b : Own Route Demand). mapping 𝓐 N L (b .id) ≡ held 𝓐 L (b .id)) (ownBoxes N)
       own-held = all-map (ownBoxes N) (λ b e. mapping-own (b .id) b e) (own-there N rise)
 
-      solved : All (λ (b : Own Route Demand). fault 𝓐 N L b ≡ none) (ownBoxes N) → Solution 𝓐 N (mapping 𝓐 N L) × Demands 𝓐 N (mapping 𝓐 N L)
+      pub solved : All (λ (b : Own Route Demand). fault 𝓐 N L b ≡ none) (ownBoxes N) → Solution 𝓐 N (mapping 𝓐 N L) × Demands 𝓐 N (mapping 𝓐 N L)
       solved h = (
         record {
           equation-6 = all-map (ownBoxes N) (λ b f. f .0 ∙ (fault-none b (f .1)) .0) facts;

@@ -1,0 +1,81 @@
+-- No output is longer than the longest: at most a line for each own box, and for an input.
+--     from-short                   the lines of a trail
+--     trail-fits, trail-read       the longest trail's room is enough for every output
+--     trail-start                  what is behind an input that is over the bound does not show
+use mathlib.Core.Path.{_≡_, refl, sym, ap, _∙_}
+use mathlib.Core.Bool.{true}
+use mathlib.Core.List.{List, [], _∷_, _++_}
+use Prim.Native.Nat.{ℕ, _+_, _-_, _*_, _≤_, _<_}
+use native.Mathlib.Omega.{arith}
+use lib.ListN.{length, take, drop, length-append}
+use Rattle.lists.specs.Laid.{placed}
+use Rattle.lists.specs.Rows.{laidRows}
+use Rattle.lists.proofs.Filter.{length-filterMap}
+use Rattle.lists.proofs.Rows.{length-rows}
+use Rattle.routes.specs.Carry.{highest}
+use Rattle.networks.specs.Network.{asOwn, ownBoxes}
+use Rattle.networks.specs.Trail.{trailBehind}
+use Rattle.layout.specs.Form.{nodeWidth}
+use Rattle.layout.specs.Layout.{nodeCount, nodePart}
+use Rattle.layout.specs.declared.Form.{Form}
+use Rattle.records.specs.Edge.{owned}
+use Rattle.reading.specs.House.{house}
+use Rattle.reading.specs.Parts.{boxAt}
+use Rattle.reading.specs.Whole.{readNetwork}
+use Rattle.lines.specs.Line.{lineBytes, longestBoxLine}
+use Rattle.lines.specs.declared.Line.{Line}
+use Rattle.lines.proofs.Answers.{answer-read}
+use Rattle.lines.proofs.Lengths.{line-length, box-length}
+use Rattle.lines.proofs.Starts.{bound-start}
+use Rattle.preparing.specs.Prepared.{Prepared}
+use Rattle.preparing.proofs.PreparedLaws.{prepared-checked}
+use Rattle.judging.specs.Text.{namingBound}
+use Rattle.tracing.specs.Text.{trailLine, trailLines, trailFrom, longestTrail, trailText}
+use Rattle.tracing.specs.Tracing.{holding, Passing}
+use Rattle.tracing.proofs.TrailLaws.{behind-few}
+
+lines-short : (f : Form) (network list boxes : List ℕ) → length (trailLines f network list boxes) ≤ longestBoxLine * length boxes
+unfolding trailLines trailLine
+lines-short f network list [] = omega arith
+lines-short f network list (i ∷ is) =
+    let l = box-length i (holding f network list i) in
+    let r = lines-short f network list is in
+    omega (arith, length-append (trailLine f network list i) (laidRows (trailLine f network list) is))
+
+module _ (f : Form) (network list rows stands : List ℕ) (h : Prepared f network list rows stands) (p : Passing f network list) (id : ℕ) where
+  -- a table has a row for each own box
+  own-few : length (ownBoxes (readNetwork f network)) ≤ 1024
+  unfolding readNetwork
+  own-few =
+      let room = prepared-checked f network list rows stands h .room in
+      let few = room .few in
+      let most = room .usable .few in
+      let all = length-rows (boxAt (f .route) network) (nodeWidth f) (nodePart network) (nodeCount network) in
+      let ours = length-filterMap asOwn (readNetwork f network .boxes) in
+      omega arith
+
+  pub from-short : owned f network id ≡ true → length (trailFrom f network list id) ≤ longestTrail
+  unfolding trailFrom
+  from-short o =
+      let behind = trailBehind (house highest) (readNetwork f network) (holding f network list) id in
+      let few = behind-few f network list rows stands h p id o in
+      let own = own-few in
+      let l = lines-short f network list (id ∷ behind) in
+      omega arith
+
+-- the line of a verdict
+pub line-short : (l : Line) (r : ℕ) → r ≡ length (lineBytes l) → r ≤ longestTrail
+line-short l r q = omega (arith, line-length l)
+
+-- a room for the longest
+module _ (input : List ℕ) (r : ℕ) (few : r ≤ longestTrail) where
+  pub trail-fits : (out′ : List ℕ) → length out′ ≡ longestTrail → r ≤ length out′
+  trail-fits out′ long = omega arith
+
+  pub trail-read : r ≡ length (trailText input) → (out out′ : List ℕ) → longestTrail ≤ length out → out′ ≡ placed (trailText input) out
+      → take (r - 0) (drop 0 out′) ≡ trailText input
+  trail-read q out out′ room e = answer-read (trailText input) out out′ r (omega arith) q e
+
+pub trail-start : (read more : List ℕ) → namingBound < length read → trailText (read ++ more) ≡ trailText read
+unfolding trailText
+trail-start read more over = bound-start namingBound read more _ _ over
