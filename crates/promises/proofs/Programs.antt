@@ -1,6 +1,6 @@
--- What the programs promise, proved. An output over the bound is a refused line whatever is behind (judge-start, cut-start). A line's first
--- byte is its first word's, and a box's id begins with a digit; a fragment's record is shorter than 2^16 bytes, so that its length's high byte
--- is 0.
+-- What the programs promise, proved. An output over the bound is a refused line whatever is behind (judge-start, cut-start, trail-start). A
+-- line's first byte is its first word's, and a box's id begins with a digit; a fragment's record is shorter than 2^16 bytes, so that its
+-- length's high byte is 0.
 use mathlib.Core.Path.{_≡_, refl, sym, ap, _∙_, subst}
 use mathlib.Core.Bool.{Bool, true, false, cond, not}
 use mathlib.Core.List.{List, [], _∷_, _++_, append-nil}
@@ -27,7 +27,6 @@ use Rattle.reading.specs.Largest.{largestNetwork}
 use Rattle.reading.specs.Whole.{HouseNetwork, writeNetwork, networkOf, listOf}
 use Rattle.lines.specs.Bound.{withinBound}
 use Rattle.lines.specs.Line.{line, passLine, refusedLine, foundLine, boxLine}
-use Rattle.lines.proofs.Starts.{bound-start}
 use Rattle.lines.specs.Split.{firstRecord, restOf, namedOf, behindNamed}
 use Rattle.judging.specs.Judging.{judgeRecords}
 use Rattle.judging.specs.Text.{verdictLine, judgeBound, namingBound, judgeText}
@@ -37,6 +36,7 @@ use Rattle.counting.specs.Text.{censusOf, behindPass, censusRecords, censusText
 use Rattle.counting.proofs.Lengths.{census-start}
 use Rattle.tracing.specs.Tracing.{showRecords}
 use Rattle.tracing.specs.Text.{trailLine, trailLines, shownText, trailText, trailOutput}
+use Rattle.tracing.proofs.Lengths.{trail-start}
 use Rattle.cutting.specs.Cutting.{cutNetwork}
 use Rattle.cutting.specs.Text.{cutOutput, askedOf, behindAsked, cutBound, cutText}
 use Rattle.cutting.proofs.Starts.{cut-start}
@@ -64,8 +64,7 @@ pub census-reads : (input : List ℕ) → CensusReads input
 census-reads = start-told judgeBound censusText census-start
 
 pub trail-reads : (input : List ℕ) → TrailReads input
-unfolding trailText
-trail-reads = start-told namingBound trailText (λ read more over. bound-start namingBound read more _ _ over)
+trail-reads = start-told namingBound trailText trail-start
 
 pub census-prints : (input : List ℕ) → CensusPrints input
 unfolding censusText judgeText withinBound censusRecords
