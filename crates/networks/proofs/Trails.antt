@@ -14,7 +14,7 @@ use mathlib.Core.Path.{_≡_, refl, sym, ap, ap₂, _∙_, subst}
 use mathlib.Core.Bool.{Bool, true, false, cond, not, _&&_, true≢false, false≢true}
 use mathlib.Core.List.{List, [], _∷_}
 use mathlib.Core.Logic.{⊎-elim}
-use mathlib.Core.Option.{Option, none, some, Option·map, Option·getD, Option·elim, Option·none-ne-some, map-eq-none-iff, map-eq-some-iff}
+use mathlib.Core.Option.{Option, none, some, Option·map, Option·getD}
 use Prim.Native.Nat.{ℕ, zero, suc, _≤_, _<_}
 use native.Mathlib.Omega.{arith}
 use lib.Dec.{leb}
@@ -22,10 +22,10 @@ use lib.ListN.{length, getElem?}
 use borrow.Author.Tests.{leb-true, le-leb, lt-leb}
 use Rattle.lists.specs.All.{All, any, Distinct}
 use Rattle.lists.proofs.All.{all-map, all-of, all-at}
-use Rattle.lists.specs.Filter.{filter, firstThat}
-use Rattle.lists.proofs.Filter.{any-mapped, firstThat-meets, firstThat-none, length-filter, length-fewer}
+use Rattle.lists.specs.Filter.{filter}
+use Rattle.lists.proofs.Filter.{any-mapped, firstThat-meets, length-filter, length-fewer}
 use Rattle.lists.proofs.Sorted.{find-key, find-all, firstThat-lowest}
-use Rattle.lists.proofs.Test.{and-i, cond-off, yes-or-no, le-or-lt}
+use Rattle.lists.proofs.Test.{and-i, yes-or-no, le-or-lt}
 use Rattle.networks.specs.Algebra.{Algebra, Choice}
 use Rattle.networks.specs.Network.{Own, Input, Box, own, input, Wire, NetworkOver, boxId, isBox, isOwnBox, ownBoxes, inputs, box, hasBox, owns, wiresInto}
 use Rattle.networks.specs.Paper.{edge}
@@ -34,28 +34,10 @@ use Rattle.networks.specs.Sound.{Bounds, Joined, Sound}
 use Rattle.networks.specs.Trail.{Costs, StartedBy, Starts, Supplies, Trail, gives, supplier, stops, sender, behind, trailBehind}
 use Rattle.networks.proofs.BestRoute.{due-offered}
 use Rattle.networks.proofs.Laws.Boxes.{own-found, input-found, own-there, own-box, own-any}
+use Rattle.networks.proofs.Laws.Senders.{goes-on, supplier-wire, supplier-none, behind-end, behind-next}
 use Rattle.networks.proofs.Laws.Silence.{bestOf-none, trans-none}
 use Rattle.networks.proofs.Laws.Solutions.{holds-due, holds-assumed}
 use Rattle.networks.proofs.Laws.Wires.{into-rise, into-all, edge-wire, edge-ends}
-
--- the boxes behind a box, taken apart
-module _ (𝓐 : Algebra) (N : NetworkOver 𝓐) (ℒ : ℕ → 𝓐 .Route) where
-  goes-on : (i j : ℕ) → sender 𝓐 N ℒ i ≡ some j → (stops 𝓐 N ℒ (box N i) (ℒ i) ≡ false) × (supplier 𝓐 N ℒ i ≡ some j)
-  unfolding sender
-  goes-on i j e = cond-off (stops 𝓐 N ℒ (box N i) (ℒ i)) none (supplier 𝓐 N ℒ i) (some j) (Option·none-ne-some j) e
-
-  supplier-wire : (i j : ℕ) → supplier 𝓐 N ℒ i ≡ some j → (w : Wire) × (firstThat (gives 𝓐 N ℒ (ℒ i)) (wiresInto N i) ≡ some w) × (w .from ≡ j)
-  unfolding supplier
-  supplier-wire i j e = (map-eq-some-iff (λ (w : Wire). w .from) (firstThat (gives 𝓐 N ℒ (ℒ i)) (wiresInto N i))) .0 e
-
-  behind-end : (n i : ℕ) → sender 𝓐 N ℒ i ≡ none → behind 𝓐 N ℒ n i ≡ []
-  unfolding behind Option·elim
-  behind-end zero i e = refl
-  behind-end (suc n) i e = rw e refl
-
-  behind-next : (n i j : ℕ) → sender 𝓐 N ℒ i ≡ some j → behind 𝓐 N ℒ (suc n) i ≡ j ∷ behind 𝓐 N ℒ n j
-  unfolding behind Option·elim
-  behind-next n i j e = rw e refl
 
 module _ (𝓐 : Algebra) (B : Bounds) (N : NetworkOver 𝓐) (sound : Sound B N) (ℒ : ℕ → 𝓐 .Route) where
   open Algebra 𝓐 using (Route, Policy, Demand, noRoute, same, carry, same-true, same-self)
@@ -125,9 +107,8 @@ module _ (𝓐 : Algebra) (B : Bounds) (N : NetworkOver 𝓐) (sound : Sound B N
 
     -- an own box that no wire supplies holds its initial route
     unsupplied : (i : ℕ) (b : Own Route Demand) → box N i ≡ some (own b) → supplier 𝓐 N ℒ i ≡ none → ℒ i ≡ b .initial
-    unfolding supplier
     unsupplied i b q e = ⊎-elim (λ (s : due 𝓐 N ℒ b ≡ b .initial). held ∙ s)
-        (λ (s : any (same (due 𝓐 N ℒ b)) (offers 𝓐 N ℒ (b .id)) ≡ true). absurd (true≢false (sym s ∙ offered ∙ nothing)))
+        (λ (s : any (same (due 𝓐 N ℒ b)) (offers 𝓐 N ℒ (b .id)) ≡ true). absurd (true≢false (sym s ∙ offered ∙ supplier-none 𝓐 N ℒ i e)))
         (due-offered 𝓐 choice N ℒ b)
       where
         held : ℒ i ≡ due 𝓐 N ℒ b
@@ -136,10 +117,6 @@ module _ (𝓐 : Algebra) (B : Bounds) (N : NetworkOver 𝓐) (sound : Sound B N
         offered : any (same (due 𝓐 N ℒ b)) (offers 𝓐 N ℒ (b .id)) ≡ any (gives 𝓐 N ℒ (ℒ i)) (wiresInto N i)
         offered = ap₂ (λ (r : Route) (k : ℕ). any (same r) (offers 𝓐 N ℒ k)) (sym held) (find-key boxId i (N .boxes) (own b) q)
             ∙ any-mapped (same (ℒ i)) (λ (w : Wire). trans 𝓐 N w (ℒ (w .from))) (wiresInto N i)
-
-        nothing : any (gives 𝓐 N ℒ (ℒ i)) (wiresInto N i) ≡ false
-        nothing = firstThat-none (gives 𝓐 N ℒ (ℒ i)) (wiresInto N i)
-            ((map-eq-none-iff (λ (w : Wire). w .from) (firstThat (gives 𝓐 N ℒ (ℒ i)) (wiresInto N i))) .0 e)
 
     pub sender-starts : (i : ℕ) → hasBox N i ≡ true → sender 𝓐 N ℒ i ≡ none → Starts 𝓐 N ℒ i
     unfolding sender

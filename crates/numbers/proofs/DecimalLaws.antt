@@ -1,7 +1,7 @@
--- The digits of a number, counted, and told by how few they are.
+-- The digits of a number, counted, and told by how few they are; the first of them.
 use mathlib.Core.Path.{_≡_, refl, ap, _∙_}
 use mathlib.Core.Bool.{Bool, true, false}
-use mathlib.Core.List.{[], _∷_}
+use mathlib.Core.List.{List, [], _∷_, _++_}
 use mathlib.Core.Logic.{⊎-elim}
 use Prim.Native.Nat.{ℕ, zero, suc, _+_, _-_, _/_, _%_, _^_, _≤_, _<_}
 use native.Mathlib.Nat.{pow-le-pow-right, zero-lt-suc}
@@ -9,8 +9,9 @@ use native.Mathlib.Numerals.{add-one}
 use native.Mathlib.Omega.{arith}
 use lib.Dec.{leb}
 use lib.ListN.{length, length-append}
-use borrow.Author.Tests.{le-leb, lt-leb}
+use borrow.Author.Tests.{lt-ltb, le-leb, lt-leb}
 use Rattle.io.specs.Digits.{digits, glyph, Fewest}
+use Rattle.lists.specs.First.{firstBad}
 use Rattle.lists.proofs.First.{first-here, first-none, first-le}
 use Rattle.lists.proofs.Test.{le-or-lt}
 use Rattle.numbers.specs.Decimal.{places, decimal}
@@ -27,6 +28,19 @@ length-decimal n = length-digits 10 (places n) n
 pub decimal-short : (n : ℕ) → length (decimal n) ≤ 20
 unfolding places
 decimal-short n = let h = first-le (λ k. leb (10 ^ (k + 1)) n) 19 in rw (length-decimal n) (omega arith)
+
+-- a number's text begins with a digit
+digits-first : (k n : ℕ) → (d : ℕ) × (ds : List ℕ) × (48 ≤ d) × (d ≤ 57) × (digits 10 (suc k) n ≡ d ∷ ds)
+digits-first zero n =
+    let l : n % 10 < 10 = omega arith in
+    (48 + n % 10, [], omega arith, omega arith, rw (lt-ltb (n % 10) 10 l) refl)
+digits-first (suc k) n =
+    let f = digits-first k (n / 10) in
+    (f .0, f .1 ++ (glyph (n % 10) ∷ []), f .2, f .3, ap (λ (ds : List ℕ). ds ++ (glyph (n % 10) ∷ [])) (f .4))
+
+pub decimal-first : (n : ℕ) → (d : ℕ) × (ds : List ℕ) × (48 ≤ d) × (d ≤ 57) × (decimal n ≡ d ∷ ds)
+unfolding decimal places
+decimal-first n = let k = firstBad (λ (j : ℕ). leb (10 ^ (j + 1)) n) 19 in rw (add-one k) (digits-first k n)
 
 power : (i j : ℕ) → i ≤ j → 10 ^ i ≤ 10 ^ j
 power i j h = pow-le-pow-right (zero-lt-suc 9) h

@@ -24,11 +24,14 @@ determined = record {
   cut-bytes = λ κs a r r′ e e′ p q. cc;
   census = λ κs a r r′ e e′ p q. cc;
   census-bytes = λ κs a r r′ e e′ p q. cc;
+  trail = λ κs a r r′ e e′ p q. cc;
+  trail-bytes = λ κs a r r′ e e′ p q. cc;
   check-network = λ κs a r r′ e e′ p q. one-check _ r r′ p q;
   check-list = λ κs a r r′ e e′ p q. one-check _ r r′ p q;
   check-sheet = λ κs a r r′ e e′ p q. one-check _ r r′ p q;
   lnianotka-check = λ κs a r r′ e e′ p q. cc;
   lnianotka-judge = λ κs a r r′ e e′ p q. cc;
   lnianotka-census = λ κs a r r′ e e′ p q. cc;
+  lnianotka-trail = λ κs a r r′ e e′ p q. cc;
   lnianotka-cut = λ κs a r r′ e e′ p q. cc;
 }

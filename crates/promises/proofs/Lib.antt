@@ -10,6 +10,7 @@ pub mod Silence
 pub mod SameAnswer
 pub mod Answers
 pub mod Policies
+pub mod Trails
 pub mod Determined
 pub mod Programs
 pub mod Contracts

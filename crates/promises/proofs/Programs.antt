@@ -1,7 +1,8 @@
--- What the programs promise, proved. An output over the bound is a refused line whatever is behind (judge-start, cut-start). A line's first
--- byte is its first word's; a fragment's record is shorter than 2^16 bytes, so that its length's high byte is 0.
-use mathlib.Core.Path.{_≡_, refl, sym, ap, _∙_}
-use mathlib.Core.Bool.{Bool, true, false, cond}
+-- What the programs promise, proved. An output over the bound is a refused line whatever is behind (judge-start, cut-start, trail-start). A
+-- line's first byte is its first word's, and a box's id begins with a digit; a fragment's record is shorter than 2^16 bytes, so that its
+-- length's high byte is 0.
+use mathlib.Core.Path.{_≡_, refl, sym, ap, _∙_, subst}
+use mathlib.Core.Bool.{Bool, true, false, cond, not}
 use mathlib.Core.List.{List, [], _∷_, _++_, append-nil}
 use mathlib.Core.Logic.{⊎-elim}
 use Prim.Native.Nat.{ℕ, _+_, _≤_, _<_, _/_}
@@ -10,30 +11,39 @@ use native.Mathlib.Omega.{arith}
 use lib.Dec.{ltb}
 use lib.ListN.{length, take, drop, replicate, length-take, length-replicate, take-append-drop}
 use lib.Seq.{take-all}
-use Rattle.lists.specs.Answer.{Answer, given, refused}
+use Rattle.lists.specs.Answer.{Answer, given, refused, andThen}
 use Rattle.lists.specs.Test.{firstOf}
 use Rattle.lists.proofs.Test.{le-or-lt}
 use Rattle.numbers.specs.BigEndian.{u16Bytes, u32Bytes}
+use Rattle.numbers.proofs.DecimalLaws.{decimal-first}
 use Rattle.routes.specs.declared.Route.{Route}
 use Rattle.networks.specs.Judge.{Verdict, pass, found}
+use Rattle.networks.specs.Network.{owns}
+use Rattle.networks.specs.Solution.{mapping}
+use Rattle.networks.specs.Trail.{Shown, shownAfter, showing, trailBehind}
 use Rattle.layout.specs.Form.{nodeWidth, formOf, widest}
 use Rattle.layout.specs.declared.Form.{Form}
 use Rattle.reading.specs.Largest.{largestNetwork}
-use Rattle.reading.specs.Whole.{HouseNetwork, writeNetwork}
+use Rattle.reading.specs.Whole.{HouseNetwork, writeNetwork, networkOf, listOf}
 use Rattle.lines.specs.Bound.{withinBound}
-use Rattle.lines.specs.Line.{line, passLine, refusedLine, foundLine}
-use Rattle.lines.specs.Split.{firstRecord, restOf}
+use Rattle.lines.specs.Line.{line, passLine, refusedLine, foundLine, boxLine}
+use Rattle.lines.specs.Split.{firstRecord, restOf, namedOf, behindNamed}
 use Rattle.judging.specs.Judging.{judgeRecords}
-use Rattle.judging.specs.Text.{verdictLine, judgeBound, judgeText}
+use Rattle.judging.specs.Text.{verdictLine, judgeBound, namingBound, judgeText}
 use Rattle.judging.proofs.Starts.{judge-start}
 use Rattle.counting.specs.Lines.{censusLines}
 use Rattle.counting.specs.Text.{censusOf, behindPass, censusRecords, censusText}
 use Rattle.counting.proofs.Lengths.{census-start}
+use Rattle.tracing.specs.Tracing.{showRecords}
+use Rattle.tracing.specs.Text.{trailLine, trailLines, shownText, trailText, trailOutput}
+use Rattle.tracing.proofs.Lengths.{trail-start}
 use Rattle.cutting.specs.Cutting.{cutNetwork}
 use Rattle.cutting.specs.Text.{cutOutput, askedOf, behindAsked, cutBound, cutText}
 use Rattle.cutting.proofs.Starts.{cut-start}
 use Rattle.cutting.proofs.TextLaws.{text-fits}
+use Rattle.promises.specs.Calls.{house1}
 use Rattle.promises.specs.Programs.{JudgeReads, CutReads, CensusReads, CensusPrints, inputJudged, inputCut, JudgePrints, CutWrites, judgeMark, JudgeShows, cutMark, CutShows}
+use Rattle.promises.specs.Programs.{TrailReads, inputShown, TrailPrints, TrailMarked, TrailShows}
 
 -- the first bytes of an input, one more than a bound
 start-told : (bound : ℕ) (text : List ℕ → List ℕ) → ((read more : List ℕ) → bound < length read → text (read ++ more) ≡ text read)
@@ -52,6 +62,9 @@ cut-reads = start-told cutBound cutText cut-start
 
 pub census-reads : (input : List ℕ) → CensusReads input
 census-reads = start-told judgeBound censusText census-start
+
+pub trail-reads : (input : List ℕ) → TrailReads input
+trail-reads = start-told namingBound trailText trail-start
 
 pub census-prints : (input : List ℕ) → CensusPrints input
 unfolding censusText judgeText withinBound censusRecords
@@ -126,3 +139,58 @@ pub cut-shows : (input : List ℕ) → CutShows input
 cut-shows input =
     let written = cut-writes input in
     ap (take 1) written ∙ output-first (formOf (firstRecord input)) (inputCut input) (rw written at (cut-short input))
+
+pub trail-prints : (input : List ℕ) → TrailPrints input
+unfolding trailText withinBound trailOutput shownText
+trail-prints input = go (ltb namingBound (length input))
+  where
+    network : List ℕ
+    network = firstRecord input
+
+    list : List ℕ
+    list = behindNamed (restOf input)
+
+    a : Answer (Shown Route)
+    a = showRecords network list (namedOf (restOf input))
+
+    go : (t : Bool) → cond t (refusedLine 5 namingBound) (shownText (formOf network) network list a)
+        ≡ shownText (formOf network) network list (firstOf ((t, refused 5 namingBound) ∷ []) a)
+    go true = refl
+    go false = refl
+
+-- a trail begins with the line of the box that is named, and so with a digit of its id
+shown-first : (network list : List ℕ) (id : ℕ)
+    → TrailMarked (showRecords network list id) (take 1 (shownText (formOf network) network list (showRecords network list id)))
+unfolding showRecords showing shownText trailLines trailLine boxLine refusedLine foundLine line
+shown-first network list id = go (judgeRecords network list) (owns (networkOf network) id)
+  where
+    -- what is shown after an answer of the judge's, where there is such an own box or not
+    after : Answer (Verdict Route) → Bool → Answer (Shown Route)
+    after a t = andThen a (λ (verdict : Verdict Route). firstOf ((not t, refused 18 id) ∷ [])
+        (given (shownAfter verdict (id ∷ trailBehind house1 (networkOf network) (mapping house1 (networkOf network) (listOf list)) id))))
+
+    go : (a : Answer (Verdict Route)) (t : Bool) → TrailMarked (after a t) (take 1 (shownText (formOf network) network list (after a t)))
+    go (given (pass count)) true = let d = decimal-first id in (d .0, d .2, d .3, rw (d .4) refl)
+    go (given (pass count)) false = refl
+    go (given (found number node route count)) true = refl
+    go (given (found number node route count)) false = refl
+    go (refused number place) t = refl
+
+pub trail-shows : (input : List ℕ) → TrailShows input
+unfolding shownText refusedLine line
+trail-shows input = subst (λ (out : List ℕ). TrailMarked (inputShown input) (take 1 out)) (sym (trail-prints input))
+    (go (ltb namingBound (length input)))
+  where
+    network : List ℕ
+    network = firstRecord input
+
+    list : List ℕ
+    list = behindNamed (restOf input)
+
+    a : Answer (Shown Route)
+    a = showRecords network list (namedOf (restOf input))
+
+    go : (t : Bool) → TrailMarked (firstOf ((t, refused 5 namingBound) ∷ []) a)
+        (take 1 (shownText (formOf network) network list (firstOf ((t, refused 5 namingBound) ∷ []) a)))
+    go true = refl
+    go false = shown-first network list (namedOf (restOf input))

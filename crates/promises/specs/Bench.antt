@@ -1,8 +1,10 @@
--- The bench examples of document 01 that are marked P, with document 02's of a policy that adds 0: one table, one statement.
+-- The bench examples of document 01 that are marked P, with document 02's of a policy that adds 0 and of trails on the same networks: one
+-- table, one statement.
 -- Each row has an answer of the definitions, as numbers or as the line that a program prints, and what it must be.
 use mathlib.Core.Path.{_≡_, refl}
 use mathlib.Core.Bool.{cond}
 use mathlib.Core.List.{List, [], _∷_, _++_, map, filterMap}
+use mathlib.Core.Option.{Option·elim}
 use Prim.Native.Nat.{ℕ}
 use Rattle.lists.specs.Best.{best}
 use Rattle.lists.specs.First.{firstBad, every}
@@ -23,6 +25,7 @@ use Rattle.networks.specs.Cut.{leaves, feeds, fragmentOf, cut}
 use Rattle.networks.specs.Judge.{fault, verdictFrom, judge}
 use Rattle.networks.specs.Sheets.{number, note, listed}
 use Rattle.networks.specs.Solution.{due, mapping}
+use Rattle.networks.specs.Trail.{supplier, sender, behind, trailBehind, showing}
 use Rattle.records.specs.Edge.{edgeTo, edgeFrom, edgeKey, boxed, owned, endsFormed, edgeFormed, edgeOk, leftBy, inputOk}
 use Rattle.layout.specs.Layout.{entryOffset, policyOffset, nodeOffset, edgeOffset}
 use Rattle.entries.specs.Entries.{entryId, fragmentFormed, entryFormed, entryOk, entriesRefusal}
@@ -34,12 +37,14 @@ use Rattle.reading.specs.Parts.{demandAt, demandBytes, promiseAt, promiseBytes,
 use Rattle.reading.specs.Whole.{readNetwork, writeNetwork, readSheet, writeSheet, readList, writeList}
 use Rattle.reading.specs.Largest.{largestNetwork, largestEntries}
 use Rattle.lines.specs.Bound.{withinBound}
-use Rattle.lines.specs.Line.{text, spaced, line, routeWords, passLine, refusedLine, foundLine}
+use Rattle.lines.specs.Line.{text, spaced, line, routeWords, passLine, refusedLine, foundLine, boxLine}
 use Rattle.lines.specs.Split.{firstLength}
 use Rattle.judging.specs.Judging.{judgeRecords}
-use Rattle.judging.specs.Text.{verdictLine, judgeBound, judgeText}
+use Rattle.judging.specs.Text.{verdictLine, judgeBound, namingBound, judgeText}
+use Rattle.tracing.specs.Tracing.{showRecords}
+use Rattle.tracing.specs.Text.{trailLine, trailLines, shownText, trailOutput, trailText}
 use Rattle.cutting.specs.Cutting.{cutNetwork, cutRecords}
-use Rattle.promises.specs.BenchNetworks.{held, adds, masks, chainRecord, twoAnswers, listing, splitting, pairRecord, pairListing}
+use Rattle.promises.specs.BenchNetworks.{held, adds, masks, chainRecord, twoAnswers, listing, splitting, pairRecord, pairListing, fedRecord, fedListing}
 
 pub record Example : Type 0 where
   pub answer : List ℕ
@@ -69,6 +74,10 @@ sizeOf (refused number place) = number ∷ place ∷ []
 -- fragment 1 of the chain, box 3, into a buffer of this length
 abbrev cutting : ℕ → List ℕ
 cutting room = sizeOf (cutRecords (chainRecord (held 100 0 1 0) 2) (splitting (held 100 0 1 0) (held 100 1 1 0) (held 100 2 1 0)) 1 room)
+
+-- what the tracing program prints when it reads a network, the id of a box and a list
+abbrev tracing : List ℕ → ℕ → List ℕ → List ℕ
+tracing network id list = trailText (network ++ (u16Bytes id ++ list))
 
 abbrev pub bench : List Example
 bench =
@@ -104,19 +113,34 @@ bench =
     is (judgeText (pairRecord (adds 0 ∷ []) None ++ pairListing (held 100 5 1 0) (held 100 5 1 0))) (text "refused 6 10\n") ∷
     is (judgeText (pairRecord (adds 1 ∷ []) None ++ pairListing (held 100 5 1 0) (held 100 5 1 0))) (text "found 31 1 1 100 6 1 0\n") ∷
     is (judgeText (pairRecord (adds 1 ∷ adds 0 ∷ []) None ++ pairListing None None)) (text "refused 6 23\n") ∷
+    -- trails on the chain: from its end, from its start, of a list that fails, and where there is no such box, whatever the verdict
+    is (tracing (chainRecord (held 100 0 1 0) 2) 3 (listing (held 100 0 1 0) (held 100 1 1 0) (held 100 2 1 0)))
+        (text "3 100 2 1 0\n2 100 1 1 0\n1 100 0 1 0\n") ∷
+    is (tracing (chainRecord (held 100 0 1 0) 2) 1 (listing (held 100 0 1 0) (held 100 1 1 0) (held 100 2 1 0))) (text "1 100 0 1 0\n") ∷
+    is (tracing (chainRecord (held 100 0 1 0) 2) 3 (listing None None None)) (text "found 31 1 1 100 0 1 0\n") ∷
+    is (tracing (chainRecord (held 100 0 1 0) 2) 9 (listing (held 100 0 1 0) (held 100 1 1 0) (held 100 2 1 0))) (text "refused 18 9\n") ∷
+    is (tracing (chainRecord (held 100 0 1 0) 2) 9 (listing None None None)) (text "refused 18 9\n") ∷
+    -- trails of one of the two answers, and of its mirror
+    is (tracing twoAnswers 3 (listing (held 100 0 1 0) (held 100 1 1 0) (held 200 2 1 1))) (text "3 200 2 1 1\n2 100 1 1 0\n1 100 0 1 0\n") ∷
+    is (tracing twoAnswers 3 (listing (held 100 0 1 0) (held 200 2 1 1) (held 100 1 1 0))) (text "3 100 1 1 0\n1 100 0 1 0\n") ∷
+    -- a box that holds none; one that an input supplies; the input itself, which is no own box
+    is (tracing (pairRecord (adds 1 ∷ []) None) 2 (pairListing None None)) (text "2 none\n") ∷
+    is (tracing (fedRecord (held 100 0 1 0)) 2 (fedListing (held 100 1 1 0))) (text "2 100 1 1 0\n1 100 0 1 0\n") ∷
+    is (tracing (fedRecord (held 100 0 1 0)) 1 (fedListing (held 100 1 1 0))) (text "refused 18 1\n") ∷
     []
 
 -- every answer is the expected one
 pub bench-holds : map (λ (x : Example). x .answer) bench ≡ map (λ (x : Example). x .expected) bench
-unfolding firstBad every least place at filterMap
+unfolding firstBad every least place at filterMap Option·elim
     u16At u32At u16Bytes u32Bytes zeros decimal places
     beats same carried lacks barred dear newTags crossed meets fieldsAt fieldsBytes routeAt routeBytes routeFormed policyAt policyBytes preferenceFormed policyFormed
-    number note listed due mapping fault verdictFrom judge leaves feeds fragmentOf cut
+    number note listed due mapping fault verdictFrom judge leaves feeds fragmentOf cut supplier sender behind trailBehind showing
     formOf versioned nodeWidth entryWidth entryOffset policyOffset nodeOffset edgeOffset
     entryId fragmentFormed entryFormed entryOk entriesRefusal
     policyOk kindFormed promiseFormed demandFormed nodeFormed nodeId nodeOk isOwn ownless rowOf
     edgeTo edgeFrom edgeKey boxed owned endsFormed edgeFormed edgeOk leftBy inputOk manyParts networkRefusal
     demandAt demandBytes promiseAt promiseBytes boxAt boxBytes wireAt wireBytes sheetEntryAt sheetEntryBytes listEntryAt listEntryBytes
     readNetwork writeNetwork readSheet writeSheet readList writeList largestNetwork largestEntries
-    line spaced routeWords passLine refusedLine foundLine withinBound firstLength judgeRecords verdictLine judgeBound judgeText cutNetwork cutRecords
+    line spaced routeWords passLine refusedLine foundLine boxLine withinBound firstLength judgeRecords verdictLine judgeBound judgeText cutNetwork cutRecords
+    namingBound showRecords trailLine trailLines shownText trailOutput trailText
 bench-holds = refl

@@ -1,9 +1,10 @@
--- The networks, lists and sheets of the bench examples (document 01; document 02, K1), as records.
+-- The networks, lists and sheets of the bench examples (document 01; document 02, K1 and K2), as records.
 --     held, adds, masks        routes and policies
 --     chainRecord              three boxes in a row
 --     twoAnswers               the network with two settled lists
 --     listing, splitting       lists and sheets for three boxes
 --     pairRecord, pairListing  two boxes, and a list for them
+--     fedRecord, fedListing    a box that an input supplies, and a list for it
 use mathlib.Core.Bool.{true, false}
 use mathlib.Core.List.{List, [], _∷_}
 use mathlib.Core.Option.{none}
@@ -13,7 +14,7 @@ use Rattle.routes.specs.declared.Demand.the-variants.{Nothing, Hold}
 use Rattle.routes.specs.declared.Policy.{Policy}
 use Rattle.routes.specs.declared.Route.{Route}
 use Rattle.routes.specs.declared.Route.the-variants.{None, Held}
-use Rattle.networks.specs.Network.{Box, own, Wire}
+use Rattle.networks.specs.Network.{Box, own, input, Wire}
 use Rattle.layout.specs.Form.{version1}
 use Rattle.reading.specs.Whole.{writeNetwork, writeList, writeSheet}
 
@@ -62,6 +63,18 @@ pairRecord policies start = writeNetwork version1 (record {
 -- the list with these routes for boxes 1 and 2
 abbrev pub pairListing : Route → Route → List ℕ
 pairListing a b = writeList version1 (record { id = 1; route = a } ∷ record { id = 2; route = b } ∷ [])
+
+-- Input 1 is assumed to hold a route; the wire from it to own box 2 adds 1.
+abbrev pub fedRecord : Route → List ℕ
+fedRecord assumed = writeNetwork version1 (record {
+  policies = adds 1 ∷ [];
+  boxes = input (record { id = 1; assumed = assumed }) ∷ plain 2 None Nothing ∷ [];
+  wires = wire 2 1 0 ∷ [];
+})
+
+-- the list with this route for box 2
+abbrev pub fedListing : Route → List ℕ
+fedListing a = writeList version1 (record { id = 2; route = a } ∷ [])
 
 -- the list with these routes for boxes 1, 2 and 3
 abbrev pub listing : Route → Route → Route → List ℕ

@@ -14,12 +14,15 @@ use Rattle.cutting.proofs.cut.Reads as the-cut
 use Rattle.cutting.proofs.cut_bytes.Reads as the-cut-bytes
 use Rattle.counting.proofs.census.Reads as the-census
 use Rattle.counting.proofs.census_bytes.Reads as the-census-bytes
+use Rattle.tracing.proofs.trail.Reads as the-trail
+use Rattle.tracing.proofs.trail_bytes.Reads as the-trail-bytes
 use Rattle.records.proofs.check_network.Reads as the-check-network
 use Rattle.entries.proofs.check_list.Reads as the-check-list
 use Rattle.entries.proofs.check_sheet.Reads as the-check-sheet
 use Rattle.library.proofs.lnianotka_check.Reads as the-lnianotka-check
 use Rattle.library.proofs.lnianotka_judge.Reads as the-lnianotka-judge
 use Rattle.library.proofs.lnianotka_census.Reads as the-lnianotka-census
+use Rattle.library.proofs.lnianotka_trail.Reads as the-lnianotka-trail
 use Rattle.library.proofs.lnianotka_cut.Reads as the-lnianotka-cut
 
 -- `seen` is what a caller has of a result and of the arguments at exit.
@@ -36,10 +39,13 @@ pub record Determined : Type 0 where
   pub cut-bytes : (κs : Lfts 2) → One {B = ℕ × List ℕ} (the-cut-bytes.Post κs) (λ r e. (r, now (e .1 .0)))
   pub census : (κs : Lfts 2) → One {B = ℕ × List ℕ} (the-census.Post κs) (λ r e. (r, now (e .1 .1 .0)))
   pub census-bytes : (κs : Lfts 2) → One {B = ℕ × List ℕ} (the-census-bytes.Post κs) (λ r e. (r, now (e .1 .0)))
+  pub trail : (κs : Lfts 2) → One {B = ℕ × List ℕ} (the-trail.Post κs) (λ r e. (r, now (e .1 .1 .1 .0)))
+  pub trail-bytes : (κs : Lfts 2) → One {B = ℕ × List ℕ} (the-trail-bytes.Post κs) (λ r e. (r, now (e .1 .0)))
   pub check-network : (κs : Lfts 1) → One (the-check-network.Post κs) (λ r e. r)
   pub check-list : (κs : Lfts 1) → One (the-check-list.Post κs) (λ r e. r)
   pub check-sheet : (κs : Lfts 1) → One (the-check-sheet.Post κs) (λ r e. r)
   pub lnianotka-check : (κs : Lfts 2) → One {B = ℕ × ℕ} (the-lnianotka-check.Post κs) (λ r e. (r, now (e .1 .0)))
   pub lnianotka-judge : (κs : Lfts 2) → One {B = ℕ × List ℕ} (the-lnianotka-judge.Post κs) (λ r e. (r, now (e .1 .0)))
   pub lnianotka-census : (κs : Lfts 2) → One {B = ℕ × List ℕ} (the-lnianotka-census.Post κs) (λ r e. (r, now (e .1 .0)))
+  pub lnianotka-trail : (κs : Lfts 2) → One {B = ℕ × List ℕ} (the-lnianotka-trail.Post κs) (λ r e. (r, now (e .1 .0)))
   pub lnianotka-cut : (κs : Lfts 2) → One {B = ℕ × List ℕ} (the-lnianotka-cut.Post κs) (λ r e. (r, now (e .1 .0)))

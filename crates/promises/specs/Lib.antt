@@ -10,6 +10,7 @@ pub mod SameAnswer
 pub mod Suite
 pub mod Answers
 pub mod Policies
+pub mod Trails
 pub mod Determined
 pub mod Programs
 pub mod BenchNetworks

@@ -1,26 +1,29 @@
 -- What the programs promise beside the lines that document 01 gives them: how much of an input counts, and how a script tells one
 -- answer from another.
---     JudgeReads, CutReads, CensusReads     no byte counts that is further back than one behind the longest input
---     inputJudged, inputCut    what is answered to an input
---     JudgePrints, CutWrites, CensusPrints  the output is that answer's, and behind a pass the census
---     JudgeShows, CutShows      the first byte of the output says which kind of answer it is
+--     JudgeReads, CutReads, CensusReads, TrailReads     no byte counts that is further back than one behind the longest input
+--     inputJudged, inputCut, inputShown                 what is answered to an input
+--     JudgePrints, CutWrites, CensusPrints, TrailPrints the output is that answer's, and behind a pass the census
+--     JudgeShows, CutShows, TrailShows                  the first byte of the output says which kind of answer it is
 use mathlib.Core.Path.{_≡_}
 use mathlib.Core.List.{List, [], _∷_, _++_}
-use Prim.Native.Nat.{ℕ, _+_}
+use Prim.Native.Nat.{ℕ, _+_, _≤_}
 use lib.Dec.{ltb}
 use lib.ListN.{length, take}
 use Rattle.lists.specs.Answer.{Answer, given, refused}
 use Rattle.lists.specs.Test.{firstOf}
 use Rattle.routes.specs.declared.Route.{Route}
 use Rattle.networks.specs.Judge.{Verdict, pass, found}
+use Rattle.networks.specs.Trail.{Shown, trail, fails}
 use Rattle.layout.specs.Form.{formOf}
 use Rattle.reading.specs.Whole.{HouseNetwork}
 use Rattle.lines.specs.Line.{text}
-use Rattle.lines.specs.Split.{firstRecord, restOf}
+use Rattle.lines.specs.Split.{firstRecord, restOf, namedOf, behindNamed}
 use Rattle.judging.specs.Judging.{judgeRecords}
-use Rattle.judging.specs.Text.{verdictLine, judgeBound, judgeText}
+use Rattle.judging.specs.Text.{verdictLine, judgeBound, namingBound, judgeText}
 use Rattle.counting.specs.Lines.{censusLines}
 use Rattle.counting.specs.Text.{censusOf, behindPass, censusText}
+use Rattle.tracing.specs.Tracing.{showRecords}
+use Rattle.tracing.specs.Text.{shownText, trailText}
 use Rattle.cutting.specs.Cutting.{cutNetwork}
 use Rattle.cutting.specs.Text.{cutOutput, askedOf, behindAsked, cutBound, cutText}
 
@@ -35,13 +38,20 @@ CutReads input = cutText (take (cutBound + 1) input) ≡ cutText input
 abbrev pub CensusReads : List ℕ → Type 0
 CensusReads input = censusText (take (judgeBound + 1) input) ≡ censusText input
 
--- An input over the bound is refused with 5, the bound as its place; any other is split and judged, or cut.
+abbrev pub TrailReads : List ℕ → Type 0
+TrailReads input = trailText (take (namingBound + 1) input) ≡ trailText input
+
+-- An input over the bound is refused with 5, the bound as its place; any other is split and judged, or cut, or its trail shown.
 abbrev pub inputJudged : List ℕ → Answer (Verdict Route)
 inputJudged input = firstOf ((ltb judgeBound (length input), refused 5 judgeBound) ∷ []) (judgeRecords (firstRecord input) (restOf input))
 
 abbrev pub inputCut : List ℕ → Answer HouseNetwork
 inputCut input = firstOf ((ltb cutBound (length input), refused 5 cutBound) ∷ [])
     (cutNetwork (firstRecord input) (behindAsked (restOf input)) (askedOf (restOf input)))
+
+abbrev pub inputShown : List ℕ → Answer (Shown Route)
+inputShown input = firstOf ((ltb namingBound (length input), refused 5 namingBound) ∷ [])
+    (showRecords (firstRecord input) (behindNamed (restOf input)) (namedOf (restOf input)))
 
 abbrev pub JudgePrints : List ℕ → Type 0
 JudgePrints input = judgeText input ≡ verdictLine (inputJudged input)
@@ -52,6 +62,9 @@ CutWrites input = cutText input ≡ cutOutput (formOf (firstRecord input)) (inpu
 -- The census begins with the judge's line, and has the counts and the silent boxes behind it on a pass, and otherwise nothing.
 abbrev pub CensusPrints : List ℕ → Type 0
 CensusPrints input = censusText input ≡ judgeText input ++ behindPass (inputJudged input) (censusLines (censusOf (firstRecord input) (restOf input)))
+
+abbrev pub TrailPrints : List ℕ → Type 0
+TrailPrints input = trailText input ≡ shownText (formOf (firstRecord input)) (firstRecord input) (behindNamed (restOf input)) (inputShown input)
 
 -- The judge's line begins with a `p` on a pass, with an `f` on a finding, with an `r` on a refusal.
 abbrev pub judgeMark : Answer (Verdict Route) → List ℕ
@@ -69,3 +82,12 @@ cutMark (refused number place) = text "r"
 
 abbrev pub CutShows : List ℕ → Type 0
 CutShows input = take 1 (cutText input) ≡ cutMark (inputCut input)
+
+-- A trail begins with a digit, and what is printed instead of one with an `f` on a finding, with an `r` on a refusal.
+abbrev pub TrailMarked : Answer (Shown Route) → List ℕ → Type 0
+TrailMarked (given (trail boxes)) start = (digit : ℕ) × (48 ≤ digit) × (digit ≤ 57) × (start ≡ digit ∷ [])
+TrailMarked (given (fails number node route count)) start = start ≡ text "f"
+TrailMarked (refused number place) start = start ≡ text "r"
+
+abbrev pub TrailShows : List ℕ → Type 0
+TrailShows input = TrailMarked (inputShown input) (take 1 (trailText input))

@@ -1,5 +1,5 @@
--- One result of each function that judging is made of: the routes that it looks up, the wires in their order, the fault of a box, the
--- verdict and its line. Of a part and of a line the contract gives the bytes.
+-- One result of each function that judging is made of: the routes that it looks up, the wires in their order and what they give, the fault of
+-- a box, the verdict and its line. Of a part and of a line the contract gives the bytes.
 use contract.Lifetimes.{Lfts}
 use denote.Ref.{now}
 use Rattle.lines.specs.Line.{lineBytes}
@@ -12,6 +12,8 @@ use Rattle.boxes.proofs.own_box.Reads as own-box
 use Rattle.boxes.proofs.fault_at.Reads as fault-at
 use Rattle.boxes.proofs.first_wire.Reads as first-wire
 use Rattle.boxes.proofs.wire_behind.Reads as wire-behind
+use Rattle.boxes.proofs.wire_into.Reads as wire-into
+use Rattle.boxes.proofs.offer.Reads as offer
 use Rattle.boxes.proofs.over_wire.Reads as over-wire
 use Rattle.judging.proofs.search.Reads as search
 use Rattle.judging.proofs.verdict_line.Reads as verdict-line
@@ -37,6 +39,12 @@ one-first-wire κs a r r′ e e′ p q = cc
 
 pub one-wire-behind : (κs : Lfts 1) → One (wire-behind.Post κs) (λ r e. r)
 one-wire-behind κs a r r′ e e′ p q = cc
+
+pub one-wire-into : (κs : Lfts 1) → One (wire-into.Post κs) (λ r e. r)
+one-wire-into κs a r r′ e e′ p q = cc
+
+pub one-offer : (κs : Lfts 3) → One (offer.Post κs) (λ r e. r)
+one-offer κs a r r′ e e′ p q = cc
 
 pub one-over-wire : (κs : Lfts 3) → One (over-wire.Post κs) (λ r e. r)
 one-over-wire κs a r r′ e e′ p q = cc

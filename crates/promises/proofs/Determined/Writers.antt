@@ -1,4 +1,5 @@
--- One result of each function that lays down a part of a record or of a line: how many bytes, or the offset behind them, and the buffer.
+-- One result of each function that lays down a part of a record or of a line: how many bytes, or the offset behind them, and the buffer. Of
+-- those that split a program's input: the id that is named, and how many bytes a part of it takes.
 use mathlib.Core.List.{List}
 use Prim.Native.Nat.{ℕ}
 use contract.Lifetimes.{Lfts}
@@ -11,11 +12,14 @@ use Rattle.writing.proofs.put_promised.Reads as put-promised
 use Rattle.writing.proofs.put_input.Reads as put-input
 use Rattle.writing.proofs.put_edge.Reads as put-edge
 use Rattle.lines.proofs.first_length.Reads as first-length
+use Rattle.lines.proofs.named_id.Reads as named-id
+use Rattle.lines.proofs.named_length.Reads as named-length
 use Rattle.lines.proofs.put_word.Reads as put-word
 use Rattle.lines.proofs.put_number.Reads as put-number
 use Rattle.lines.proofs.add_numbers.Reads as add-numbers
 use Rattle.lines.proofs.add_route.Reads as add-route
 use Rattle.lines.proofs.put_line.Reads as put-line
+use Rattle.lines.proofs.put_box.Reads as put-box
 use Rattle.lines.proofs.place_line.Reads as place-line
 use Rattle.lines.specs.Written.{Written}
 use Rattle.promises.specs.Determined.{One}
@@ -44,6 +48,12 @@ one-put-edge κs a r r′ e e′ p q = cc
 pub one-first-length : (κs : Lfts 1) → One (first-length.Post κs) (λ r e. r)
 one-first-length κs a r r′ e e′ p q = cc
 
+pub one-named-id : (κs : Lfts 1) → One (named-id.Post κs) (λ r e. r)
+one-named-id κs a r r′ e e′ p q = cc
+
+pub one-named-length : (κs : Lfts 1) → One (named-length.Post κs) (λ r e. r)
+one-named-length κs a r r′ e e′ p q = cc
+
 pub one-put-word : (κs : Lfts 2) → One {B = ℕ × List ℕ} (put-word.Post κs) (λ r e. (r, now (e .1 .0)))
 unfolding Written
 one-put-word κs a r r′ e e′ p q = cc
@@ -63,6 +73,10 @@ one-add-route κs a r r′ e e′ p q = cc
 pub one-put-line : (κs : Lfts 1) → One {B = ℕ × List ℕ} (put-line.Post κs) (λ r e. (r, now (e .1 .0)))
 unfolding Written
 one-put-line κs a r r′ e e′ p q = cc
+
+pub one-put-box : (κs : Lfts 1) → One {B = ℕ × List ℕ} (put-box.Post κs) (λ r e. (r, now (e .1 .1 .0)))
+unfolding Written
+one-put-box κs a r r′ e e′ p q = cc
 
 pub one-place-line : (κs : Lfts 1) → One {B = ℕ × List ℕ} (place-line.Post κs) (λ r e. (r, now (e .1 .0)))
 one-place-line κs a r r′ e e′ p q = cc
