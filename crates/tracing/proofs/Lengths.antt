@@ -68,13 +68,12 @@ pub line-short : (l : Line) (r : ℕ) → r ≡ length (lineBytes l) → r ≤ l
 line-short l r q = omega (arith, line-length l)
 
 -- a room for the longest
-module _ (input : List ℕ) (r : ℕ) (few : r ≤ longestTrail) where
-  pub trail-fits : (out′ : List ℕ) → length out′ ≡ longestTrail → r ≤ length out′
-  trail-fits out′ long = omega arith
+pub trail-fits : (r : ℕ) → r ≤ longestTrail → (out′ : List ℕ) → length out′ ≡ longestTrail → r ≤ length out′
+trail-fits r few out′ long = omega arith
 
-  pub trail-read : r ≡ length (trailText input) → (out out′ : List ℕ) → longestTrail ≤ length out → out′ ≡ placed (trailText input) out
-      → take (r - 0) (drop 0 out′) ≡ trailText input
-  trail-read q out out′ room e = answer-read (trailText input) out out′ r (omega arith) q e
+pub trail-read : (input : List ℕ) (r : ℕ) → r ≡ length (trailText input) → (out out′ : List ℕ) → longestTrail ≤ length out → out′ ≡ placed (trailText input) out
+    → r ≤ longestTrail → take (r - 0) (drop 0 out′) ≡ trailText input
+trail-read input r q out out′ room e few = answer-read (trailText input) out out′ r (omega arith) q e
 
 pub trail-start : (read more : List ℕ) → namingBound < length read → trailText (read ++ more) ≡ trailText read
 unfolding trailText

@@ -33,7 +33,9 @@ part-write-answer-end : tie.Need-part-write-answer-end
 part-write-answer-end c = search (needs, trail-fits)
 
 write-answer-requires : tie.Need-write-answer-requires
-write-answer-requires c κs = search (needs, answered namingBound trailText trail-start, trail-read)
+write-answer-requires c κs =
+    let made = c .before .before .before .trail-bytes .ensures in
+    search (needs, answered namingBound trailText trail-start, λ out out′ room e. trail-read _ _ (made .0) out out′ room e (made .1 .0))
 
 returns : tie.Need-returns
 returns c = search needs
