@@ -36,7 +36,7 @@ use Rattle.judging.specs.Text.{verdictLine}
 use Rattle.tracing.specs.Tracing.{showRecords}
 use Rattle.tracing.specs.Text.{trailLine, trailLines, shownText, trailOutput}
 use Rattle.promises.specs.Calls.{house1, Passes}
-use Rattle.promises.specs.Trails.{holds, Back, Short, Followed, TrailExists, EveryTrail, TrailShown, ShownAlone, HoldsNone, ShownRefused, FromNowhere}
+use Rattle.promises.specs.Trails.{holds, Back, Short, Followed, TrailExists, EveryTrail, TrailShown, OneFollowed, HoldsNone, ShownRefused, FromNowhere}
 use Rattle.promises.proofs.Demand2.{passes-exactly}
 use Rattle.promises.proofs.Policies.{policies-add}
 
@@ -124,15 +124,15 @@ module _ (network list : List ℕ) where
     printed small passes i t,
   )
 
-  pub shown-alone : ShownAlone network list
-  shown-alone i [] [] p q = refl
-  shown-alone i [] (k ∷ ks) p q = absurd (q .0 p)
-  shown-alone i (j ∷ js) [] p q = absurd (p .0 q)
-  shown-alone i (j ∷ js) (k ∷ ks) p q =
+  pub one-followed : OneFollowed network list
+  one-followed i [] [] p q = refl
+  one-followed i [] (k ∷ ks) p q = absurd (q .0 p)
+  one-followed i (j ∷ js) [] p q = absurd (p .0 q)
+  one-followed i (j ∷ js) (k ∷ ks) p q =
       let l = p .2 k (q .1) in
       let m = q .2 j (p .1) in
       let e : j ≡ k = omega arith in
-      ap₂ _∷_ e (shown-alone j js ks (p .3) (subst (λ (n : ℕ). Followed network list n ks) (sym e) (q .3)))
+      ap₂ _∷_ e (one-followed j js ks (p .3) (subst (λ (n : ℕ). Followed network list n ks) (sym e) (q .3)))
 
   pub holds-none : HoldsNone network list
   holds-none small passes i t absent = printed small passes i t

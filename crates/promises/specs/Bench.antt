@@ -114,8 +114,7 @@ bench =
     is (judgeText (pairRecord (adds 1 ∷ []) None ++ pairListing (held 100 5 1 0) (held 100 5 1 0))) (text "found 31 1 1 100 6 1 0\n") ∷
     is (judgeText (pairRecord (adds 1 ∷ adds 0 ∷ []) None ++ pairListing None None)) (text "refused 6 23\n") ∷
     -- trails on the chain: from its end, from its start, of a list that fails, and where there is no such box, whatever the verdict
-    is (tracing (chainRecord (held 100 0 1 0) 2) 3 (listing (held 100 0 1 0) (held 100 1 1 0) (held 100 2 1 0)))
-    (text "3 100 2 1 0\n2 100 1 1 0\n1 100 0 1 0\n") ∷
+    is (tracing (chainRecord (held 100 0 1 0) 2) 3 (listing (held 100 0 1 0) (held 100 1 1 0) (held 100 2 1 0))) (text "3 100 2 1 0\n2 100 1 1 0\n1 100 0 1 0\n") ∷
     is (tracing (chainRecord (held 100 0 1 0) 2) 1 (listing (held 100 0 1 0) (held 100 1 1 0) (held 100 2 1 0))) (text "1 100 0 1 0\n") ∷
     is (tracing (chainRecord (held 100 0 1 0) 2) 3 (listing None None None)) (text "found 31 1 1 100 0 1 0\n") ∷
     is (tracing (chainRecord (held 100 0 1 0) 2) 9 (listing (held 100 0 1 0) (held 100 1 1 0) (held 100 2 1 0))) (text "refused 18 9\n") ∷

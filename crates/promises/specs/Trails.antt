@@ -2,7 +2,7 @@
 -- that holds its own initial route or an assumed one.
 --     holds, Back, Short                 the route of a box; a trail back from it; no box twice, and no more wires than own boxes
 --     TrailExists, EveryTrail            there is a trail, and every one is short
---     Followed, TrailShown, ShownAlone   the trail that is printed, and that no other follows the same rule
+--     Followed, TrailShown, OneFollowed  the trail that is printed, and that no other follows the same rule
 --     HoldsNone                          a box that holds none is printed alone
 --     ShownRefused                       what is printed where there is no trail: a refusal, or the finding of a list that fails
 --     FromNowhere                        where no route starts and none is assumed, none is held
@@ -72,8 +72,8 @@ module _ (network list : List ℕ) where
       × (trailOutput network list i ≡ laidRows (λ (k : ℕ). boxLine k (holds k)) (i ∷ js))
 
   -- No other boxes follow the rule.
-  abbrev pub ShownAlone : Type 0
-  ShownAlone = (i : ℕ) (js ks : List ℕ) → Followed i js → Followed i ks → js ≡ ks
+  abbrev pub OneFollowed : Type 0
+  OneFollowed = (i : ℕ) (js ks : List ℕ) → Followed i js → Followed i ks → js ≡ ks
 
   -- An own box that holds none is printed alone.
   abbrev pub HoldsNone : Type 0

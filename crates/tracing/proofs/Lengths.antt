@@ -71,9 +71,9 @@ line-short l r q = omega (arith, line-length l)
 pub trail-fits : (r : ℕ) → r ≤ longestTrail → (out′ : List ℕ) → length out′ ≡ longestTrail → r ≤ length out′
 trail-fits r few out′ long = omega arith
 
-pub trail-read : (input : List ℕ) (r : ℕ) → r ≡ length (trailText input) → (out out′ : List ℕ) → longestTrail ≤ length out → out′ ≡ placed (trailText input) out
-    → r ≤ longestTrail → take (r - 0) (drop 0 out′) ≡ trailText input
-trail-read input r q out out′ room e few = answer-read (trailText input) out out′ r (omega arith) q e
+pub trail-read : (input : List ℕ) (r : ℕ) → r ≡ length (trailText input) → r ≤ longestTrail → (out out′ : List ℕ) → longestTrail ≤ length out
+    → out′ ≡ placed (trailText input) out → take (r - 0) (drop 0 out′) ≡ trailText input
+trail-read input r q few out out′ room e = answer-read (trailText input) out out′ r (omega arith) q e
 
 pub trail-start : (read more : List ℕ) → namingBound < length read → trailText (read ++ more) ≡ trailText read
 unfolding trailText

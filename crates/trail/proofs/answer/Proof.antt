@@ -35,7 +35,7 @@ part-write-answer-end c = search (needs, trail-fits)
 write-answer-requires : tie.Need-write-answer-requires
 write-answer-requires c κs =
     let made = c .before .before .before .trail-bytes .ensures in
-    search (needs, answered namingBound trailText trail-start, λ out out′ room e. trail-read _ _ (made .0) out out′ room e (made .1 .0))
+    answered namingBound trailText trail-start _ _ _ (search needs) (search needs) (trail-read _ _ (made .0) (made .1 .0) _ _ (search needs) (made .1 .1))
 
 returns : tie.Need-returns
 returns c = search needs
