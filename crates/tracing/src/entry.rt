@@ -82,13 +82,11 @@ fn place_shown<'a>(
     ensures text { λ _. ⌜ now (out .exit) ≡ placed (shownText form (now (network .entry)) (now (list .entry)) (shownAt form (now (network .entry)) (now (list .entry)) id)) (now (out .entry)) ⌝ }
 {
     if !is_owned(form, network, rows, id) {
-        return place_line(
-            verdict_line(Verdict::Refused(Refusal {
-                class: Class::NoSuchOwn,
-                place: wide16(id),
-            })),
-            out,
-        );
+        let none = Refusal {
+            class: Class::NoSuchOwn,
+            place: wide16(id),
+        };
+        return place_line(verdict_line(Verdict::Refused(none)), out);
     }
     let verdict = search(form, network, list, rows, stands);
     let Verdict::Pass(_) = verdict else {
