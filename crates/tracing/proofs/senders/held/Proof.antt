@@ -3,10 +3,6 @@ use Rattle.tracing.proofs.SenderLaws.{holdings}
 use borrow.Author.Needs.{needs}
 use Rattle.tracing.proofs.senders.held.Statement.{statement}
 use Rattle.tracing.proofs.senders.held.Tie as tie
-use Rattle.tracing.proofs.senders.held.Reads as reads
-use Rattle.tracing.proofs.senders.held.Lts as lts
-use Rattle.preparing.proofs.box_part.Reads as box-part-reads
-use Rattle.routes.proofs.route_at.Reads as route-at-reads
 
 box-part-requires : tie.Need-box-part-requires
 box-part-requires c κs = search (needs, holdings)

@@ -4,13 +4,6 @@ use Rattle.preparing.proofs.PreparedLaws.{prepared}
 use borrow.Author.Needs.{needs}
 use Rattle.tracing.proofs.senders.sender.Statement.{statement}
 use Rattle.tracing.proofs.senders.sender.Tie as tie
-use Rattle.tracing.proofs.senders.sender.Reads as reads
-use Rattle.tracing.proofs.senders.sender.Lts as lts
-use Rattle.boxes.proofs.own_box.Reads as own-box-reads
-use Rattle.nodes.proofs.is_own.Reads as is-own-reads
-use Rattle.records.proofs.row_in.Reads as row-in-reads
-use Rattle.routes.proofs.same.Reads as same-reads
-use Rattle.tracing.proofs.senders.supplier.Reads as supplier-reads
 
 row-in-requires : tie.Need-row-in-requires
 row-in-requires c κs = search (needs, senders, prepared)
@@ -19,7 +12,7 @@ is-own-requires : tie.Need-is-own-requires
 is-own-requires c κs = search (needs, senders, prepared)
 
 returns : tie.Need-returns
-returns c = search (needs, senders, prepared)
+returns c = search senders
 
 own-box-requires : tie.Need-own-box-requires
 own-box-requires c κs = search (needs, senders, prepared)
@@ -28,13 +21,13 @@ same-requires : tie.Need-same-requires
 same-requires c κs = search (needs, senders, prepared)
 
 returns-2 : tie.Need-returns-2
-returns-2 c = search (needs, senders, prepared)
+returns-2 c = search senders
 
 supplier-requires : tie.Need-supplier-requires
 supplier-requires c κs = search (needs, senders, prepared)
 
 returns-3 : tie.Need-returns-3
-returns-3 c = search (needs, senders, prepared)
+returns-3 c = search senders
 
 pub sender-spec : {M : Type 1} → statement M
 sender-spec =

@@ -7,14 +7,6 @@ use lib.ListN.{length}
 use borrow.Author.Needs.{needs}
 use Rattle.tracing.proofs.senders.supplier.Statement.{statement}
 use Rattle.tracing.proofs.senders.supplier.Tie as tie
-use Rattle.tracing.proofs.senders.supplier.Reads as reads
-use Rattle.tracing.proofs.senders.supplier.Lts as lts
-use Rattle.boxes.proofs.offer.Reads as offer-reads
-use Rattle.boxes.proofs.wire_behind.Reads as wire-behind-reads
-use Rattle.boxes.proofs.wire_into.Reads as wire-into-reads
-use Rattle.numbers.proofs.wide16.Reads as wide16-reads
-use Rattle.numbers.proofs.u16_at.Reads as u16-at-reads
-use Rattle.routes.proofs.same.Reads as same-reads
 
 abbrev Inv-loop : tie.InvT-loop
 Inv-loop form network list rows stands id route wire₀ wire = Supplying form network list rows stands id route wire
@@ -44,7 +36,7 @@ u16-at-requires : tie.Need-u16-at-requires Inv-loop μ-loop
 u16-at-requires c κs = search (needs, supplying, offers)
 
 returns : tie.Need-returns Inv-loop μ-loop
-returns c = search (needs, supplying, offers)
+returns c = search supplying
 
 wire-behind-requires : tie.Need-wire-behind-requires Inv-loop μ-loop
 wire-behind-requires c κs = (search supplying, search supplying)
@@ -56,7 +48,7 @@ loop-again : tie.Need-loop-again Inv-loop μ-loop
 loop-again c = search (needs, supplying, offers)
 
 returns-2 : tie.Need-returns-2 Inv-loop μ-loop
-returns-2 c = search (needs, supplying, offers)
+returns-2 c = search supplying
 
 pub supplier-spec : {M : Type 1} → statement M
 supplier-spec =
