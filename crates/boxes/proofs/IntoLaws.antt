@@ -3,7 +3,7 @@
 --     wires-start, wire-other, wire-mine, wires-skipped     one wire, and the wires to lower boxes, passed over
 --     edges-rise, to-climbs, wires-past     wires by their to end
 --     NextAt, next-..              the next wire, as the code holds it, is the j-th
-use mathlib.Core.Path.{_≡_, refl, sym, ap, ap₂, _∙_}
+use mathlib.Core.Path.{_≡_, sym, ap, ap₂, _∙_}
 use mathlib.Core.List.{List, [], _∷_}
 use mathlib.Core.Logic.{⊎-elim}
 use Prim.Native.Nat.{ℕ, zero, suc, _+_, _-_, _≤_, _<_}

@@ -6,24 +6,17 @@
 --     Left                     the verdict from here is the verdict from the start
 use mathlib.Core.Path.{_≡_, sym, ap, ap₂, _∙_}
 use mathlib.Core.Bool.{true, false}
-use mathlib.Core.List.{List, [], _∷_, map, filterMap}
+use mathlib.Core.List.{List, _∷_, map, filterMap}
 use mathlib.Core.Option.{Option}
 use Prim.Native.Nat.{ℕ, zero, suc, _+_, _-_, _≤_, _<_}
 use native.Mathlib.Nat.{sub-zero}
 use native.Mathlib.Numerals.{add-one}
 use native.Mathlib.Omega.{arith}
-use lib.Dec.{eqb}
-use borrow.Author.Tests.{eq-eqb, ne-eqb}
 use Rattle.lists.specs.Best.{best}
-use Rattle.lists.specs.Bytes.{Bytes}
-use Rattle.lists.specs.Filter.{filter}
-use Rattle.lists.specs.Rising.{least}
-use Rattle.lists.proofs.Rising.{least-next}
 use Rattle.lists.specs.Rows.{rows}
 use Rattle.lists.proofs.Rows.{rows-next, rows-end}
 use Rattle.lists.specs.Stride.{at}
 use Rattle.lists.proofs.Stride.{at-zero}
-use Rattle.numbers.proofs.Codecs.{u16-below}
 use Rattle.numbers.specs.BigEndian.{u16At}
 use Rattle.routes.specs.Form.{routeAt}
 use Rattle.routes.specs.Order.{beats}
@@ -34,12 +27,12 @@ use Rattle.reading.specs.House.{house}
 use Rattle.networks.specs.Judge.{Finding, pass, held, firstFinding, fault, stop, verdictFrom, Verdict}
 use Rattle.networks.specs.Network.{Own, Box, Wire, asOwn}
 use Rattle.networks.specs.Solution.{bestOf, due}
-use Rattle.records.specs.Edge.{edgeTo, edgeFrom, edgeKey}
+use Rattle.records.specs.Edge.{edgeTo}
 use Rattle.layout.specs.Form.{nodeWidth}
-use Rattle.layout.specs.Layout.{nodeCount, edgeCount, nodePart, nodeOffset, edgePart, edgeOffset}
+use Rattle.layout.specs.Layout.{nodeCount, edgeCount, nodePart, nodeOffset, edgeOffset}
 use Rattle.nodes.specs.Node.{nodeId, isOwn}
 use Rattle.layout.specs.declared.Form.{Form}
-use Rattle.reading.specs.Parts.{boxAt, wireAt, promiseAt, demandAt}
+use Rattle.reading.specs.Parts.{boxAt, promiseAt, demandAt}
 use Rattle.reading.specs.Whole.{HouseNetwork, HouseList, readNetwork, readList}
 use Rattle.routes.specs.Carry.{highest}
 use Rattle.judging.specs.Judging.{verdictAt}

@@ -14,7 +14,7 @@ use lib.Dec.{leb}
 use lib.ListN.{length}
 use mir.Syntax.{w64}
 use mir.Val.{Fits}
-use borrow.Author.Tests.{leb-true, lt-ltb, le-ltb, not-true, not-false}
+use borrow.Author.Tests.{leb-true, not-true, not-false}
 use Rattle.lists.specs.Best.{best}
 use Rattle.lists.specs.Rising.{Rising, least}
 use Rattle.lists.proofs.Rising.{least-next}
@@ -26,10 +26,10 @@ use Rattle.routes.specs.declared.Route.{Route}
 use Rattle.lists.specs.Answer.{given}
 use Rattle.reading.specs.House.{house}
 use Rattle.networks.specs.Judge.{Finding, pass, found, held}
-use Rattle.records.specs.Edge.{boxed, owned, edgeTo, edgeKey}
+use Rattle.records.specs.Edge.{boxed, owned, edgeTo}
 use Rattle.layout.specs.Layout.{Room, nodeCount, edgeCount, nodeOffset, edgePart, edgeOffset}
 use Rattle.nodes.specs.Node.{nodeId, nodeOk, nodeFormed, rowOf, isOwn}
-use Rattle.layout.proofs.Places.{edge-first, edge-after, edge-room}
+use Rattle.layout.proofs.Places.{edge-first}
 use Rattle.records.proofs.RowLaws.{row-within, row-found}
 use Rattle.layout.specs.declared.Form.{Form}
 use Rattle.reading.specs.Whole.{readList}

@@ -3,7 +3,7 @@
 --     showings                   18, a pass and its trail, and any other verdict, which has its line alone
 --     entering                   what is refused has its line alone, and of the rest something is shown
 --     trail-texts                an input that is too long, and one that is read
-use mathlib.Core.Path.{_≡_, refl, sym, ap, ap₂, _∙_}
+use mathlib.Core.Path.{_≡_, refl, sym, ap, _∙_}
 use mathlib.Core.Bool.{Bool, true, false, not}
 use mathlib.Core.List.{List, [], _∷_}
 use Prim.Native.Nat.{ℕ, _+_, _-_, _^_, _≤_, _<_, min}
@@ -20,11 +20,11 @@ use Rattle.lists.proofs.Laid.{placed-fits, stored-over}
 use Rattle.lists.proofs.Test.{and-l}
 use Rattle.routes.specs.Carry.{highest}
 use Rattle.routes.specs.declared.Route.{Route}
-use Rattle.networks.specs.Judge.{Verdict as Judged, pass, found}
+use Rattle.networks.specs.Judge.{Verdict as Judged, pass}
 use Rattle.networks.specs.Network.{owns}
 use Rattle.networks.specs.Trail.{Shown, showing}
 use Rattle.layout.specs.Form.{formOf}
-use Rattle.layout.specs.Refusals.{checkAnswer, refusing}
+use Rattle.layout.specs.Refusals.{checkAnswer}
 use Rattle.layout.specs.declared.Check.{Check}
 use Rattle.layout.specs.declared.Check.the-variants.{Fine, Refused as Check·Refused}
 use Rattle.layout.specs.declared.Class.the-variants.{NoSuchOwn}
@@ -48,13 +48,13 @@ use Rattle.preparing.specs.Prepared.{Prepared, prepareRefusal}
 use Rattle.preparing.proofs.GivenLaws.{given-form}
 use Rattle.preparing.proofs.PreparedLaws.{prepared-room, prepared-filled}
 use Rattle.judging.specs.Answers.{answerOf}
-use Rattle.judging.specs.Judging.{judgeRecords, verdictAt}
+use Rattle.judging.specs.Judging.{verdictAt}
 use Rattle.judging.specs.Text.{verdictLine, namingBound}
 use Rattle.judging.specs.declared.Verdict.{Verdict}
 use Rattle.judging.specs.declared.Verdict.the-variants.{Pass, NotDue, PromiseBroken, DemandUnmet, Refused}
 use Rattle.judging.proofs.EntryLaws.{judge-refused, judge-searched}
 use Rattle.judging.proofs.Verdict.{the-type}
-use Rattle.tracing.specs.Text.{trailFrom, trailLines, shownText, trailOutput, longestTrail, trailText}
+use Rattle.tracing.specs.Text.{trailFrom, shownText, outputAt, trailOutput, longestTrail, trailText}
 use Rattle.tracing.specs.Tracing.{showRecords, shownAt, Passing}
 use Rattle.tracing.proofs.Lengths.{from-short}
 
@@ -96,7 +96,7 @@ shown-tabled f network list rows stands h = record {
 -- by whether the box is an own one, and by the verdict
 module _ (f : Form) (network list : List ℕ) (id : ℕ) (t : Bool) (o : t ≡ owned f network id) where
   abbrev told : List ℕ
-  told = shownText f network list (shownAt f network list id)
+  told = outputAt f network list id
 
   -- what is shown after an answer of the judge
   abbrev after : Answer (Judged Route) → Answer (Shown Route)
@@ -107,7 +107,7 @@ module _ (f : Form) (network list : List ℕ) (id : ℕ) (t : Bool) (o : t ≡ o
 
   pub none-told : (wide : ℕ) (l : Line) → not t ≡ true → wide ≡ id → lineBytes l ≡ verdictLine (answerOf (Refused (record { class = NoSuchOwn; place = wide })))
       → lineBytes l ≡ told
-  unfolding shownAt verdictAt showing shownText verdictLine
+  unfolding outputAt shownAt verdictAt showing shownText verdictLine
   none-told wide l z q m = m ∙ rw (q, owns-is, not-true t z)
 
   module _ (z : not t ≡ false) (v : Verdict) (h : answerOf v ≡ verdictAt f network list) where
@@ -120,7 +120,7 @@ module _ (f : Form) (network list : List ℕ) (id : ℕ) (t : Bool) (o : t ≡ o
       pass-told = (boxes, sym h ∙ ap answerOf e)
 
       pub trail-told : trailFrom f network list id ≡ told
-      unfolding shownAt showing shownText trailFrom
+      unfolding outputAt shownAt showing shownText trailFrom
       trail-told = rw (← h, e, owns-is, not-false t z)
 
     module _ (k : OneOf (1 ∷ 2 ∷ 3 ∷ 4 ∷ []) (tagOf the-type v)) (l : Line) (m : lineBytes l ≡ verdictLine (answerOf v)) where
@@ -136,7 +136,7 @@ module _ (f : Form) (network list : List ℕ) (id : ℕ) (t : Bool) (o : t ≡ o
           go (Refused r) j = refl
 
       pub line-told : lineBytes l ≡ told
-      unfolding shownAt
+      unfolding outputAt shownAt
       line-told = m ∙ alone ∙ ap (λ (a : Answer (Judged Route)). shownText f network list (after a)) h
 
 pub ruleset showings = (shown-tabled, none-told, owned-told, pass-told, trail-told, line-told)
@@ -147,8 +147,8 @@ module _ (network list : List ℕ) (id : ℕ) (c : Check) (h : checkAnswer c ≡
   unfolding trailOutput showRecords shownText verdictLine
   refused-told r e l m = m ∙ rw (← judge-refused network list c h r e)
 
-  pub shown-told : (f : Form) → c ≡ Fine f → shownText f network list (shownAt f network list id) ≡ trailOutput network list id
-  unfolding trailOutput showRecords shownAt
+  pub shown-told : (f : Form) → c ≡ Fine f → outputAt f network list id ≡ trailOutput network list id
+  unfolding trailOutput outputAt showRecords shownAt
   shown-told f e =
       let own : formOf network ≡ f = given-form network list f (sym h ∙ ap checkAnswer e) in
       let one : formOf list ≡ f = one-form list network ∙ own in

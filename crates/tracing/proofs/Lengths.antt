@@ -2,7 +2,7 @@
 --     from-short                   the lines of a trail
 --     trail-fits, trail-read       the longest trail's room is enough for every output
 --     trail-start                  what is behind an input that is over the bound does not show
-use mathlib.Core.Path.{_≡_, refl, sym, ap, _∙_}
+use mathlib.Core.Path.{_≡_}
 use mathlib.Core.Bool.{true}
 use mathlib.Core.List.{List, [], _∷_, _++_}
 use Prim.Native.Nat.{ℕ, _+_, _-_, _*_, _≤_, _<_}

@@ -3,11 +3,11 @@
 --     holdings                  the route that a box holds
 --     Supplying, supplying      the loop over the wires into a box
 --     senders                   whether the trail stops at a box
-use mathlib.Core.Path.{_≡_, refl, sym, ap, _∙_}
+use mathlib.Core.Path.{_≡_, sym, ap, _∙_}
 use mathlib.Core.Bool.{Bool, true, false, cond, not}
 use mathlib.Core.List.{List}
 use mathlib.Core.Option.{Option, none, some, Option·map}
-use Prim.Native.Nat.{ℕ, _+_, _-_, _^_, _≤_, _<_}
+use Prim.Native.Nat.{ℕ, _+_, _-_, _≤_, _<_}
 use native.Mathlib.Omega.{arith}
 use lib.Dec.{ltb}
 use lib.ListN.{length}
@@ -22,7 +22,7 @@ use Rattle.routes.specs.declared.Demand.{Demand}
 use Rattle.routes.specs.declared.Route.{Route}
 use Rattle.networks.specs.Network.{Box, own, input, Wire, box}
 use Rattle.networks.specs.Trail.{gives, stops, supplier, sender}
-use Rattle.layout.specs.Layout.{Room, edgeCount, nodeCount, nodeOffset, edgeOffset}
+use Rattle.layout.specs.Layout.{edgeCount, nodeOffset, edgeOffset}
 use Rattle.layout.specs.declared.Form.{Form}
 use Rattle.nodes.specs.Node.{rowOf, isOwn}
 use Rattle.records.specs.Checked.{CheckedNetwork}

@@ -3,14 +3,13 @@
 --     from-last, from-next       the lines of a trail that stops at its first box, and of one that goes on
 --     sent-boxed, sent-cheaper   a sender is a box, and holds a cheaper route
 --     behind-few                 no more boxes are behind an own box than the network has own boxes
-use mathlib.Core.Path.{_≡_, refl, sym, ap, _∙_}
+use mathlib.Core.Path.{_≡_, sym, _∙_}
 use mathlib.Core.Bool.{true}
-use mathlib.Core.List.{List, [], _∷_, _++_, append-nil}
+use mathlib.Core.List.{List, _++_, append-nil}
 use mathlib.Core.Option.{none, some}
 use Prim.Native.Nat.{ℕ, _≤_, _<_}
 use lib.ListN.{length}
 use Rattle.lists.specs.Answer.{given}
-use Rattle.lists.specs.Rows.{laidRows}
 use Rattle.lists.proofs.Answer.{given-same}
 use Rattle.routes.specs.Carry.{highest}
 use Rattle.routes.specs.declared.Route.{Route}

@@ -1,6 +1,6 @@
 -- What the tracing program prints of what it reads (documents 01, 'The two programs', and 02, K2).
 --     trailLine, trailLines     the lines of a trail
---     shownText, trailOutput    what is printed of an answer, and of two records and an id
+--     shownText, outputAt, trailOutput     what is printed of an answer, and of two records and an id
 --     longestTrail, trailText   the longest output; what is printed of an input
 use Prim.Native.Nat.{ℕ, _+_, _*_}
 use mathlib.Core.List.{List, _∷_}
@@ -17,7 +17,7 @@ use Rattle.lines.specs.Bound.{withinBound}
 use Rattle.lines.specs.Line.{boxLine, foundLine, refusedLine, longestBoxLine}
 use Rattle.lines.specs.Split.{firstRecord, restOf, namedOf, behindNamed}
 use Rattle.judging.specs.Text.{namingBound}
-use Rattle.tracing.specs.Tracing.{holding, showRecords}
+use Rattle.tracing.specs.Tracing.{holding, showRecords, shownAt}
 
 module _ (f : Form) (network list : List ℕ) where
   -- the line of a box: its id and the route that it holds
@@ -37,6 +37,10 @@ module _ (f : Form) (network list : List ℕ) where
   shownText (given (trail boxes)) = trailLines boxes
   shownText (given (fails number node route count)) = foundLine number node count route
   shownText (refused number place) = refusedLine number place
+
+  -- what is printed of a box, where judging refuses nothing
+  unfoldable pub outputAt : ℕ → List ℕ
+  outputAt id = shownText (shownAt f network list id)
 
 unfoldable pub trailOutput : List ℕ → List ℕ → ℕ → List ℕ
 trailOutput network list id = shownText (formOf network) network list (showRecords network list id)

@@ -6,8 +6,8 @@ ghost use lib.ListN.{length};
 ghost use Rattle.lists.specs.Laid.{placed};
 ghost use Rattle.records.specs.Edge.{owned};
 ghost use Rattle.preparing.specs.Prepared.{Prepared};
-ghost use Rattle.tracing.specs.Tracing.{shownAt, Passing};
-ghost use Rattle.tracing.specs.Text.{trailFrom, shownText, trailOutput, longestTrail, trailText};
+ghost use Rattle.tracing.specs.Tracing.{Passing};
+ghost use Rattle.tracing.specs.Text.{trailFrom, outputAt, trailOutput, longestTrail, trailText};
 use crate::walk::put_trail;
 use judging::Verdict;
 use judging::longest_naming;
@@ -77,9 +77,9 @@ fn place_shown<'a>(
     out: &mut [u8],
 ) -> usize
     requires { ⌜ Prepared form (now network) (now list) (now rows) (now stands) ⌝ }
-    ensures count { λ r. ⌜ r ≡ length (shownText form (now (network .entry)) (now (list .entry)) (shownAt form (now (network .entry)) (now (list .entry)) id)) ⌝ }
+    ensures count { λ r. ⌜ r ≡ length (outputAt form (now (network .entry)) (now (list .entry)) id) ⌝ }
     ensures short { λ r. ⌜ r ≤ longestTrail ⌝ }
-    ensures text { λ _. ⌜ now (out .exit) ≡ placed (shownText form (now (network .entry)) (now (list .entry)) (shownAt form (now (network .entry)) (now (list .entry)) id)) (now (out .entry)) ⌝ }
+    ensures text { λ _. ⌜ now (out .exit) ≡ placed (outputAt form (now (network .entry)) (now (list .entry)) id) (now (out .entry)) ⌝ }
 {
     if !is_owned(form, network, rows, id) {
         let none = Refusal {
