@@ -31,14 +31,14 @@ use Rattle.preparing.specs.Prepared.{Prepared}
 use Rattle.preparing.proofs.PreparedLaws.{prepared-checked}
 use Rattle.judging.specs.Text.{namingBound}
 use Rattle.tracing.specs.Text.{trailLine, trailLines, trailFrom, longestTrail, trailText}
-use Rattle.tracing.specs.Tracing.{holding, Passing}
+use Rattle.tracing.specs.Tracing.{mappingIn, Passing}
 use Rattle.tracing.proofs.TrailLaws.{behind-few}
 
 lines-short : (f : Form) (network list boxes : List ℕ) → length (trailLines f network list boxes) ≤ longestBoxLine * length boxes
 unfolding trailLines trailLine
 lines-short f network list [] = omega arith
 lines-short f network list (i ∷ is) =
-    let l = box-length i (holding f network list i) in
+    let l = box-length i (mappingIn f network list i) in
     let r = lines-short f network list is in
     omega (arith, length-append (trailLine f network list i) (laidRows (trailLine f network list) is))
 
@@ -57,7 +57,7 @@ module _ (f : Form) (network list rows stands : List ℕ) (h : Prepared f networ
   pub from-short : owned f network id ≡ true → length (trailFrom f network list id) ≤ longestTrail
   unfolding trailFrom
   from-short o =
-      let behind = trailBehind (house highest) (readNetwork f network) (holding f network list) id in
+      let behind = trailBehind (house highest) (readNetwork f network) (mappingIn f network list) id in
       let few = behind-few f network list rows stands h p id o in
       let own = own-few in
       let l = lines-short f network list (id ∷ behind) in

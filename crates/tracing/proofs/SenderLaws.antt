@@ -40,7 +40,7 @@ use Rattle.boxes.specs.Wires.{WireAt, nextFrom, rowInto, offerAt}
 use Rattle.boxes.specs.declared.NextWire.{NextWire}
 use Rattle.boxes.specs.declared.OwnBox.{OwnBox}
 use Rattle.boxes.proofs.IntoLaws.{wiresFrom, into, wire-mine, wires-skipped, wires-past, NextAt, next-at, next-there, next-into, next-wire, next-less, next-next, next-past, to-climbs}
-use Rattle.tracing.specs.Tracing.{holding, supplierIn, senderIn, senderOf}
+use Rattle.tracing.specs.Tracing.{mappingIn, supplierIn, senderIn, senderOf}
 use Rattle.tracing.specs.declared.Sender.{Sender}
 
 -- the route that a box holds
@@ -52,7 +52,7 @@ module _ (f : Form) (network list rows stands : List ℕ) (h : Prepared f networ
     pub holding-room : 0 + f .route ≤ length x
     holding-room = box-part-room f network list (prepared-listed f network list rows stands h) id b x g
 
-    pub holding-is : (r : Route) → r ≡ routeAt (f .route) x 0 → r ≡ holding f network list id
+    pub holding-is : (r : Route) → r ≡ routeAt (f .route) x 0 → r ≡ mappingIn f network list id
     holding-is r q = q ∙ box-part-route f network list (prepared-listed f network list rows stands h) id b x g
 
 pub ruleset holdings = (holding-wide, holding-room, holding-is)
@@ -64,7 +64,7 @@ pub record SupplyingFacts (f : Form) (network list rows stands : List ℕ) (id :
   pub next : NextAt f network wire j
   pub ahead : j < edgeCount network → id ≤ edgeTo f network j
   pub left : Option·map (λ (w : Wire). w .from)
-      (firstThat (gives (house highest) (readNetwork f network) (holding f network list) route) (into f network id (wiresFrom f network j)))
+      (firstThat (gives (house highest) (readNetwork f network) (mappingIn f network list) route) (into f network id (wiresFrom f network j)))
       ≡ supplierIn f network list id
 
 unfoldable pub Supplying : Form → List ℕ → List ℕ → List ℕ → List ℕ → ℕ → Route → NextWire → Type 0
@@ -76,9 +76,9 @@ module _ (f : Form) (network list rows stands : List ℕ) (id : ℕ) (route : Ro
 
   -- the sender of the first of these wires that gives the route
   abbrev firstSender : List Wire → Option ℕ
-  firstSender ws = Option·map (λ (w : Wire). w .from) (firstThat (gives (house highest) N (holding f network list) route) ws)
+  firstSender ws = Option·map (λ (w : Wire). w .from) (firstThat (gives (house highest) N (mappingIn f network list) route) ws)
 
-  pub supply-start : (wire : NextWire) → Prepared f network list rows stands → route ≡ holding f network list id
+  pub supply-start : (wire : NextWire) → Prepared f network list rows stands → route ≡ mappingIn f network list id
       → wire ≡ nextFrom network (edgeOffset f network (rowInto f network id)) → Supplying f network list rows stands id route wire
   unfolding Supplying rowInto supplier
   supply-start wire h q e =
@@ -119,7 +119,7 @@ module _ (f : Form) (network list rows stands : List ℕ) (id : ℕ) (route : Ro
 
         module _ (x : Route) (o : x ≡ offerAt f network list (wire .at)) (t : Bool) (y : t ≡ same route x) where
           -- whether the wire gives the route
-          given-is : gives (house highest) N (holding f network list) route (wireAt network (edgeOffset f network (s .j))) ≡ t
+          given-is : gives (house highest) N (mappingIn f network list) route (wireAt network (edgeOffset f network (s .j))) ≡ t
           unfolding offerAt
           given-is = sym (y ∙ ap (same route) (o ∙ ap (offerAt f network list) (next-at f network supply-checked wire (s .j) (s .next))))
 
@@ -153,14 +153,14 @@ module _ (f : Form) (network list rows stands : List ℕ) (id : ℕ) (route : Ro
 pub ruleset supplying = (supply-start, supply-prepared, supply-checked, supply-wire, supply-found, supply-less, supply-next, supply-end)
 
 -- whether the trail stops at a box
-module _ (f : Form) (network list : List ℕ) (id : ℕ) (b : boxed f network id ≡ true) (route : Route) (q : route ≡ holding f network list id) where
+module _ (f : Form) (network list : List ℕ) (id : ℕ) (b : boxed f network id ≡ true) (route : Route) (q : route ≡ mappingIn f network list id) where
   box-there : box (readNetwork f network) id ≡ some (boxAt (f .route) network (nodeOffset f network (rowOf f network id)))
   unfolding boxed nodeOffset
   box-there = read-find f network id ∙ rw b
 
   -- the sender, by the box
   sender-by : (v : Box Route Demand) → boxAt (f .route) network (nodeOffset f network (rowOf f network id)) ≡ v
-      → senderIn f network list id ≡ cond (stops (house highest) (readNetwork f network) (holding f network list) (some v) route) none (supplierIn f network list id)
+      → senderIn f network list id ≡ cond (stops (house highest) (readNetwork f network) (mappingIn f network list) (some v) route) none (supplierIn f network list id)
   unfolding sender
   sender-by v e = rw (box-there ∙ ap some e, q)
 

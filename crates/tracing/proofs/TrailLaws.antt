@@ -33,7 +33,7 @@ use Rattle.preparing.specs.Prepared.{Prepared}
 use Rattle.preparing.proofs.PreparedLaws.{prepared-checked}
 use Rattle.judging.specs.Judging.{verdictAt}
 use Rattle.tracing.specs.Text.{trailLine, trailLines, trailFrom}
-use Rattle.tracing.specs.Tracing.{holding, senderIn, Passing}
+use Rattle.tracing.specs.Tracing.{mappingIn, senderIn, Passing}
 
 module _ (f : Form) (network list rows stands : List ℕ) (h : Prepared f network list rows stands) (p : Passing f network list) where
   abbrev N : HouseNetwork
@@ -43,7 +43,7 @@ module _ (f : Form) (network list rows stands : List ℕ) (h : Prepared f networ
   L = readList f list
 
   abbrev ℒ : ℕ → Route
-  ℒ = holding f network list
+  ℒ = mappingIn f network list
 
   checked : CheckedNetwork f network
   checked = prepared-checked f network list rows stands h

@@ -14,7 +14,7 @@ use Rattle.lines.specs.Written.{Written}
 use Rattle.lines.proofs.Writing.{written-then}
 use Rattle.preparing.specs.Prepared.{Prepared}
 use Rattle.tracing.specs.Text.{trailLine, trailFrom}
-use Rattle.tracing.specs.Tracing.{holding, senderIn, Passing, senderOf}
+use Rattle.tracing.specs.Tracing.{mappingIn, senderIn, Passing, senderOf}
 use Rattle.tracing.specs.declared.Sender.{Sender}
 use Rattle.tracing.specs.declared.Sender.the-variants.{NoSender, From}
 use Rattle.tracing.proofs.TrailLaws.{from-last, from-next, sent-boxed, sent-cheaper}
@@ -26,7 +26,7 @@ module _ (f : Form) (network list : List ℕ) (id at : ℕ) where
 module _ (f : Form) (network list rows stands : List ℕ) (h : Prepared f network list rows stands) (p : Passing f network list) (id : ℕ)
     (x : Sender) (s : senderOf x ≡ senderIn f network list id) where
   -- the line of the box
-  module _ (a b : List ℕ) (i j : ℕ) (route : Route) (q : route ≡ holding f network list id) (w : Written (boxLine id route) a i b j) where
+  module _ (a b : List ℕ) (i j : ℕ) (route : Route) (q : route ≡ mappingIn f network list id) (w : Written (boxLine id route) a i b j) where
     line-put : Written (trailLine f network list id) a i b j
     unfolding trailLine
     line-put = rw q at w
@@ -52,7 +52,7 @@ module _ (f : Form) (network list rows stands : List ℕ) (h : Prepared f networ
     pub walk-boxed : boxed f network from ≡ true
     walk-boxed = sent-boxed f network list rows stands h p id from (sym s ∙ ap senderOf e)
 
-    pub walk-cheaper : (t : ℕ) → costOf (holding f network list id) ≡ t → costOf (holding f network list from) < t
+    pub walk-cheaper : (t : ℕ) → costOf (mappingIn f network list id) ≡ t → costOf (mappingIn f network list from) < t
     walk-cheaper t q = rw q at (sent-cheaper f network list rows stands h p id from (sym s ∙ ap senderOf e))
 
 pub ruleset walking = (walk-room, walk-last, walk-next-room, walk-more, walk-boxed, walk-cheaper)

@@ -17,12 +17,12 @@ use Rattle.lines.specs.Bound.{withinBound}
 use Rattle.lines.specs.Line.{boxLine, foundLine, refusedLine, longestBoxLine}
 use Rattle.lines.specs.Split.{firstRecord, restOf, namedOf, behindNamed}
 use Rattle.judging.specs.Text.{namingBound}
-use Rattle.tracing.specs.Tracing.{holding, showRecords, shownAt}
+use Rattle.tracing.specs.Tracing.{mappingIn, showRecords, shownAt}
 
 module _ (f : Form) (network list : List ℕ) where
   -- the line of a box: its id and the route that it holds
   unfoldable pub trailLine : ℕ → List ℕ
-  trailLine id = boxLine id (holding f network list id)
+  trailLine id = boxLine id (mappingIn f network list id)
 
   -- the lines of the boxes of a trail
   unfoldable pub trailLines : List ℕ → List ℕ
@@ -30,7 +30,7 @@ module _ (f : Form) (network list : List ℕ) where
 
   -- the lines of the trail that is shown of a box
   unfoldable pub trailFrom : ℕ → List ℕ
-  trailFrom id = trailLines (id ∷ trailBehind (house highest) (readNetwork f network) (holding f network list) id)
+  trailFrom id = trailLines (id ∷ trailBehind (house highest) (readNetwork f network) (mappingIn f network list) id)
 
   -- the trail's lines; the judge's line of a finding or of a refusal
   unfoldable pub shownText : Answer (Shown Route) → List ℕ

@@ -1,7 +1,7 @@
 -- Where a box's route started, by two records (document 02, K2): the refusals of judging, 18 where no own box has the id, and then the trail,
 -- or the finding of a list that fails.
 --     showRecords, shownAt      the answer, and what it is where judging refuses nothing
---     holding, supplierIn, senderIn     what a box holds, and the box that its route came from, by the records' form
+--     mappingIn, supplierIn, senderIn     what a box holds, and the box that its route came from, by the records' form
 --     senderOf                  what each case of a sender says
 --     Passing                   the list passes in the network
 use Prim.Native.Nat.{ℕ}
@@ -26,15 +26,15 @@ showRecords network list id = andThen (judgeRecords network list) (showing (hous
 
 module _ (f : Form) (network list : List ℕ) where
   -- the route that a box holds: an own box by the list, an input by assumption
-  abbrev pub holding : ℕ → Route
-  holding = mapping (house highest) (readNetwork f network) (readList f list)
+  abbrev pub mappingIn : ℕ → Route
+  mappingIn = mapping (house highest) (readNetwork f network) (readList f list)
 
   -- the lowest sender that supplies it, and the box that the trail goes back to
   abbrev pub supplierIn : ℕ → Option ℕ
-  supplierIn = supplier (house highest) (readNetwork f network) holding
+  supplierIn = supplier (house highest) (readNetwork f network) mappingIn
 
   abbrev pub senderIn : ℕ → Option ℕ
-  senderIn = sender (house highest) (readNetwork f network) holding
+  senderIn = sender (house highest) (readNetwork f network) mappingIn
 
   -- what is shown of a box, where judging refuses nothing
   unfoldable pub shownAt : ℕ → Answer (Shown Route)

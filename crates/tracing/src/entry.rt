@@ -82,11 +82,11 @@ fn place_shown<'a>(
     ensures text { λ _. ⌜ now (out .exit) ≡ placed (outputAt form (now (network .entry)) (now (list .entry)) id) (now (out .entry)) ⌝ }
 {
     if !is_owned(form, network, rows, id) {
-        let none = Refusal {
+        let refusal = Refusal {
             class: Class::NoSuchOwn,
             place: wide16(id),
         };
-        return place_line(verdict_line(Verdict::Refused(none)), out);
+        return place_line(verdict_line(Verdict::Refused(refusal)), out);
     }
     let verdict = search(form, network, list, rows, stands);
     let Verdict::Pass(_) = verdict else {

@@ -3,7 +3,7 @@ ghost use mathlib.Core.Path.{_≡_};
 ghost use mathlib.Core.Bool.{true};
 ghost use Rattle.records.specs.Edge.{boxed};
 ghost use Rattle.preparing.specs.Prepared.{Prepared};
-ghost use Rattle.tracing.specs.Tracing.{holding, supplierIn, senderIn, senderOf};
+ghost use Rattle.tracing.specs.Tracing.{mappingIn, supplierIn, senderIn, senderOf};
 use crate::Sender;
 use boxes::offer;
 use boxes::own_box;
@@ -30,7 +30,7 @@ pub fn held<'a>(
     id: u16,
 ) -> Route
     requires { ⌜ Prepared form (now network) (now list) (now rows) (now stands) × (boxed form (now network) id ≡ true) ⌝ }
-    ensures { λ r. ⌜ r ≡ holding form (now (network .entry)) (now (list .entry)) id ⌝ }
+    ensures { λ r. ⌜ r ≡ mappingIn form (now (network .entry)) (now (list .entry)) id ⌝ }
 {
     route_at(
         form.route,
@@ -50,7 +50,7 @@ fn supplier<'a>(
     route: Route,
 ) -> Sender
     requires { ⌜ Prepared form (now network) (now list) (now rows) (now stands) ⌝ }
-    requires { ⌜ route ≡ holding form (now network) (now list) id ⌝ }
+    requires { ⌜ route ≡ mappingIn form (now network) (now list) id ⌝ }
     ensures { λ r. ⌜ senderOf r ≡ supplierIn form (now (network .entry)) (now (list .entry)) id ⌝ }
 {
     let mut wire = wire_into(form, network, id);
@@ -75,7 +75,7 @@ pub fn sender<'a>(
     route: Route,
 ) -> Sender
     requires { ⌜ Prepared form (now network) (now list) (now rows) (now stands) × (boxed form (now network) id ≡ true) ⌝ }
-    requires { ⌜ route ≡ holding form (now network) (now list) id ⌝ }
+    requires { ⌜ route ≡ mappingIn form (now network) (now list) id ⌝ }
     ensures { λ r. ⌜ senderOf r ≡ senderIn form (now (network .entry)) (now (list .entry)) id ⌝ }
 {
     let row = row_in(form, network, rows, id);

@@ -1,6 +1,6 @@
 -- A box's line, and behind it the trail from its sender. The measure is what the box's route costs: the sender's costs less.
 use Rattle.reading.specs.Adding.{costOf}
-use Rattle.tracing.specs.Tracing.{holding}
+use Rattle.tracing.specs.Tracing.{mappingIn}
 use Rattle.tracing.proofs.WalkLaws.{walking, walk-next-room}
 use borrow.Author.Needs.{needs}
 use Prim.Native.Nat.{ℕ, _<_}
@@ -16,7 +16,7 @@ use Rattle.tracing.proofs.walk.+put_trail.{statement}
 use Rattle.tracing.proofs.walk.+put_trail.Tie.{close}
 
 abbrev μ-put-trail : Measures 4 put-trail-kinds.ps ℕ
-μ-put-trail κs a = costOf (holding (a .0) (a .1 .0 .now) (a .1 .1 .0 .now) (a .1 .1 .1 .1 .1 .0))
+μ-put-trail κs a = costOf (mappingIn (a .0) (a .1 .0 .now) (a .1 .1 .0 .now) (a .1 .1 .1 .1 .1 .0))
 
 abbrev put-trail-at : ℕ → In 4 put-trail-kinds.ps
 put-trail-at t = and 4 put-trail-kinds.ps (is 4 put-trail-kinds.ps μ-put-trail t) put-trail.Pre
