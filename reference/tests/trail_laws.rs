@@ -153,8 +153,8 @@ fn a_fragment_has_the_start_of_the_trail() {
             let part = trail(&fragment, &list, *id, TOP).expect("a list that passes");
             let whole = traced(&scene, *id);
             let inside = |step: &&Step| entries.iter().any(|e| (e.0, e.1) == (step.id, *number));
-            let outside = whole.iter().take_while(inside).count();
-            assert_eq!(part, whole[..whole.len().min(outside + 1)]);
+            let within = whole.iter().take_while(inside).count();
+            assert_eq!(part, whole[..whole.len().min(within + 1)]);
             ended += usize::from(part.len() < whole.len());
         }
     }

@@ -1,4 +1,4 @@
--- An own box and its first fault, and the wires one after another.
+-- An own box and its first fault, the wires one after another, and those into a box.
 pub mod BoxLaws
 pub mod WireLaws
 pub mod IntoLaws

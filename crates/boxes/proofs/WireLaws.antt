@@ -1,6 +1,6 @@
 -- The wires as the code reads them: the one at an offset, the one behind it, and what each gives.
 --     wire-froms, wire-behinds, wire-firsts     from one wire to the next
---     halving                                   where the wires into a box begin
+--     halving, wire-intos                       where the wires into a box begin
 --     trans-at                                  what a wire makes of a route, by its policy
 --     offers, over-is                           what a wire gives, by its sender's route
 use mathlib.Core.Path.{_≡_, sym, ap, ap₂, _∙_}
@@ -25,7 +25,7 @@ use Rattle.lists.proofs.Test.{le-or-lt}
 use Rattle.numbers.specs.BigEndian.{u16At}
 use Rattle.numbers.proofs.Codecs.{u16-below}
 use Rattle.routes.specs.Carry.{carried, highest}
-use Rattle.routes.specs.Form.{routeAt, policyAt}
+use Rattle.routes.specs.Form.{policyAt}
 use Rattle.routes.specs.Order.{beats}
 use Rattle.routes.specs.declared.Policy.{Policy}
 use Rattle.routes.specs.declared.Route.{Route}
@@ -34,19 +34,16 @@ use Rattle.networks.specs.Solution.{mapping, trans}
 use Rattle.records.specs.Edge.{boxed, edgeTo, edgeFrom, edgePolicy}
 use Rattle.layout.specs.Form.{Usable}
 use Rattle.layout.specs.Layout.{nodeCount, edgeCount, policyOffset, policyCount, nodeOffset, edgePart, edgeOffset}
-use Rattle.nodes.specs.Node.{rowOf}
 use Rattle.layout.proofs.Places.{edge-first, edge-after, edge-room, policy-room}
 use Rattle.layout.specs.declared.Form.{Form}
 use Rattle.reading.specs.Parts.{wireAt}
 use Rattle.reading.specs.Whole.{readNetwork, readList}
 use Rattle.reading.proofs.Said.{Edge, edge-parts}
 use Rattle.records.specs.Checked.{CheckedNetwork}
-use Rattle.preparing.specs.Parts.{rowPart}
 use Rattle.preparing.specs.Prepared.{Listed, Prepared}
 use Rattle.boxes.specs.Wires.{WireAt, WireEnd, nextFrom, rowInto, offerAt}
 use Rattle.boxes.specs.declared.NextWire.{NextWire}
 use Rattle.boxes.proofs.IntoLaws.{to-climbs}
-use Rattle.preparing.proofs.PartLaws.{box-part-room, box-part-route}
 use Rattle.preparing.proofs.PreparedLaws.{prepared-listed}
 
 -- the wire at an offset
@@ -210,9 +207,6 @@ module _ (f : Form) (network list rows stands : List ℕ) (h : Prepared f networ
   pub offer-policy-fits : length network < 2 ^ 64 → Fits w64 (o + 4)
   offer-policy-fits g = omega (arith, within)
 
-  pub offer-wide : 9 ≤ f .route
-  offer-wide = listed .checked .room .usable .wide
-
   policy-there : getD network (o + 4) 0 < policyCount network
   unfolding edgePolicy
   policy-there = rw (w .at) (edge .policy-there)
@@ -226,21 +220,18 @@ module _ (f : Form) (network list rows stands : List ℕ) (h : Prepared f networ
     unfolding edgeFrom
     offer-sender = rw (q, w .at) (edge .from-there)
 
-    module _ (x : List ℕ) (g : x ≡ rowPart f network list (rowOf f network id)) where
-      pub offer-part-room : 0 + f .route ≤ length x
-      offer-part-room = box-part-room f network list listed id offer-sender x g
+    -- and the policy
+    module _ (k p : ℕ) (c : Policy) (v : k ≡ getD network (o + 4) 0) (z : p ≡ policyOffset k) where
+      pub offer-is : (r s : Route) → c ≡ policyAt network p → r ≡ mapping (house highest) (readNetwork f network) (readList f list) id
+          → s ≡ carried 65535 c r → s ≡ offerAt f network list o
+      unfolding offerAt wireAt
+      offer-is r s d y t =
+          t ∙ ap₂ (carried 65535)
+          (d ∙ ap (policyAt network) (z ∙ ap policyOffset v))
+          (y ∙ ap (mapping (house highest) (readNetwork f network) (readList f list)) q)
+          ∙ sym (trans-at f network o _ policy-there)
 
-      -- and the policy
-      module _ (k p : ℕ) (c : Policy) (v : k ≡ getD network (o + 4) 0) (z : p ≡ policyOffset k) where
-        pub offer-is : (r s : Route) → c ≡ policyAt network p → r ≡ routeAt (f .route) x 0 → s ≡ carried 65535 c r → s ≡ offerAt f network list o
-        unfolding offerAt wireAt
-        offer-is r s d y t =
-            t ∙ ap₂ (carried 65535)
-            (d ∙ ap (policyAt network) (z ∙ ap policyOffset v))
-            (y ∙ box-part-route f network list listed id offer-sender x g ∙ ap (mapping (house highest) (readNetwork f network) (readList f list)) q)
-            ∙ sym (trans-at f network o _ policy-there)
-
-pub ruleset offers = (offer-from-room, offer-policy-room, offer-from-fits, offer-policy-fits, offer-wide, offer-sender, offer-part-room, offer-policy, offer-is)
+pub ruleset offers = (offer-from-room, offer-policy-room, offer-from-fits, offer-policy-fits, offer-sender, offer-policy, offer-is)
 
 pub over-is : (f : Form) (network list : List ℕ) (o : ℕ) (u s x : Route) → s ≡ offerAt f network list o → x ≡ best beats u s
     → x ≡ best beats u (offerAt f network list o)

@@ -1,4 +1,4 @@
-// One own box and the wires into it: what its due route starts from, what each wire gives it, and its first fault.
+// One own box and the wires into it: where they stand, what its due route starts from, what each wire gives it, and its first fault.
 mod own;
 mod wires;
 

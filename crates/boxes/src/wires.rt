@@ -1,4 +1,4 @@
-// The wires in their order, and what each gives the box that it leads to.
+// The wires in their order, where those into a box begin, and what each gives the box that it leads to.
 ghost use mathlib.Core.Path.{_≡_};
 ghost use Prim.Native.Nat.{_+_};
 ghost use Rattle.lists.specs.Best.{best};
@@ -20,13 +20,12 @@ use numbers::stride;
 use numbers::u16_at;
 use numbers::wide;
 use numbers::wide16;
-use preparing::box_part;
+use preparing::box_route;
 use routes::HIGHEST;
 use routes::Route;
 use routes::better;
 use routes::carry;
 use routes::policy_at;
-use routes::route_at;
 
 // The wire at an offset. The last one ends where the record ends.
 fn wire_from(form: Form, network: &[u8], at: usize) -> NextWire
@@ -101,9 +100,9 @@ pub fn offer<'a>(
     requires { ⌜ Prepared form (now network) (now list) (now rows) (now stands) × WireAt form (now network) at ⌝ }
     ensures { λ r. ⌜ r ≡ offerAt form (now (network .entry)) (now (list .entry)) at ⌝ }
 {
-    let part = box_part(form, network, list, rows, stands, u16_at(network, at + 2));
+    let route = box_route(form, network, list, rows, stands, u16_at(network, at + 2));
     let policy = policy_at(network, policy_offset(wide(network[at + 4])));
-    carry(HIGHEST, policy, route_at(form.route, part, 0))
+    carry(HIGHEST, policy, route)
 }
 
 // The better of a route and what a wire gives.

@@ -27,7 +27,7 @@ use Rattle.lists.specs.Answer.{given}
 use Rattle.reading.specs.House.{house}
 use Rattle.networks.specs.Judge.{Finding, pass, found, held}
 use Rattle.records.specs.Edge.{boxed, owned, edgeTo}
-use Rattle.layout.specs.Layout.{Room, nodeCount, edgeCount, nodeOffset, edgePart, edgeOffset}
+use Rattle.layout.specs.Layout.{Room, nodeCount, edgeCount, nodeOffset, edgePart}
 use Rattle.nodes.specs.Node.{nodeId, nodeOk, nodeFormed, rowOf, isOwn}
 use Rattle.layout.proofs.Places.{edge-first}
 use Rattle.records.proofs.RowLaws.{row-within, row-found}
@@ -51,8 +51,7 @@ use Rattle.preparing.proofs.PreparedLaws.{prepared-standing, prepared-checked}
 
 -- The next wire is the j-th, and those before it lead to boxes below lo.
 pub record Next (f : Form) (network list : List ℕ) (wire : NextWire) (lo j : ℕ) : Type 0 where
-  pub within : j ≤ edgeCount network
-  pub is : wire ≡ nextFrom network (edgeOffset f network j)
+  pub at : NextAt f network wire j
   pub skipped : Skipped f network list j lo
 
 -- The wires from the j-th on lead to boxes from an id on.
@@ -161,7 +160,7 @@ module _ (f : Form) (network list rows stands : List ℕ) where
     counted = zero-le;
     left = left-start f network list;
     j = 0;
-    next = record { within = zero-le; is = e ∙ ap (nextFrom network) (sym (edge-first f network)); skipped = skip-start f network list _ };
+    next = record { at = record { within = zero-le; is = e ∙ ap (nextFrom network) (sym (edge-first f network)) }; skipped = skip-start f network list _ };
     ahead = λ l. zero-le;
   }
 
@@ -200,7 +199,7 @@ module _ (f : Form) (network list rows stands : List ℕ) where
               counted = let c = s .counted in omega arith;
               left = left-input f network list i count (s .left) search-row (sym w ∙ not-true t y);
               j = s .j;
-              next = record { within = s .next .within; is = s .next .is; skipped = skip-more f network list (s .j) _ _ up (s .next .skipped) };
+              next = record { at = s .next .at; skipped = skip-more f network list (s .j) _ _ up (s .next .skipped) };
               ahead = λ m. input-ahead f network checked i (s .j) search-row (s .ahead) m (sym w ∙ not-true t y);
             }
 
@@ -222,7 +221,7 @@ module _ (f : Form) (network list rows stands : List ℕ) where
               counted = s .counted;
               left = s .left;
               j = s .j;
-              next = record { within = s .next .within; is = s .next .is; skipped = skip-more f network list (s .j) _ _ (omega arith) (s .next .skipped) };
+              next = record { at = s .next .at; skipped = skip-more f network list (s .j) _ _ (omega arith) (s .next .skipped) };
               ahead = λ m. let z = box-ahead f network checked i (s .j) search-row (s .ahead) m in omega arith;
               due = subst (λ (r : Route). Due f network list (own .node) r (own .initial) (s .j)) (ap (λ (b : OwnBox). b .initial) p)
                   (due-start f network list (own .node) (s .j) _ (own .initial) low (s .next .skipped));
@@ -251,7 +250,7 @@ module _ (f : Form) (network list rows stands : List ℕ) (n i count row node : 
   wiring-own = w .own
 
   next : NextAt f network wire (w .j)
-  next = record { within = w .next .within; is = w .next .is }
+  next = w .next .at
 
   module _ (k : ℕ) (q : k ≡ node) (small : k < 65536) where
     -- a wire into the box
@@ -271,7 +270,7 @@ module _ (f : Form) (network list rows stands : List ℕ) (n i count row node : 
 
         pub wiring-next : (x : Route) → x ≡ best beats u (offerAt f network list (wire .at)) → Wiring f network list rows stands n i count row node x behind
         unfolding Wiring
-        wiring-next x y = let after = next-next f network wiring-checked wire (w .j) next k small e behind g in record {
+        wiring-next x y = record {
           prepared = w .prepared;
           there = w .there;
           nodes = w .nodes;
@@ -284,8 +283,7 @@ module _ (f : Form) (network list rows stands : List ℕ) (n i count row node : 
           left = w .left;
           j = w .j + 1;
           next = record {
-            within = after .within;
-            is = after .is;
+            at = next-next f network wiring-checked wire (w .j) next k small e behind g;
             skipped = wire-skips f network list (w .j) there node (let z = mine in omega arith) (w .next .skipped);
           };
           ahead = λ m. let z = mine in omega (arith, to-climbs f network wiring-checked (w .j) (w .j + 1) (omega arith) m);
@@ -301,7 +299,7 @@ module _ (f : Form) (network list rows stands : List ℕ) (n i count row node : 
       at-fault : (o : Option (Finding Route)) → o ≡ faultOf f network row (held (house highest) (readList f list) (nodeId f network row)) u
           → stoppedAt f network list o node (w .before + 1) (row + 1) ≡ verdictAt f network list
       at-fault o e = left-fault f network list row (w .before) (w .left) wiring-row (w .own) node _ _ u o (w .named) refl refl
-          (due-past f network list wiring-checked node (w .j) _ u (w .next .within) past (w .due)) e
+          (due-past f network list wiring-checked node (w .j) _ u (next .within) past (w .due)) e
 
       module _ (r : Fault) (a : findingOf r ≡ faultOf f network row (held (house highest) (readList f list) (nodeId f network row)) u) where
         at-found : (number : ℕ) (route : Route) → some (record { number = number; route = route }) ≡ findingOf r

@@ -1,4 +1,4 @@
--- The lines that the programs print (document 01, 'The two programs'): words separated by one space, ended by a line feed.
+-- The lines that the programs print (document 01, 'The two programs', and document 02, K2): words separated by one space, ended by a line feed.
 use Prim.Native.Nat.{ℕ, _+_, _*_}
 use Prim.Native.Char.{code}
 use Prim.Native.String.{String, [] as no-more, _∷_ as _then_}

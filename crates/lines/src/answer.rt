@@ -1,4 +1,4 @@
-// The lines of the two programs.
+// The lines of the programs.
 ghost use mathlib.Core.Path.{_≡_};
 ghost use Prim.Native.Nat.{_+_, _^_, _≤_, _<_};
 ghost use lib.ListN.{length};

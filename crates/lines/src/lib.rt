@@ -22,7 +22,7 @@ pub use words::add_route;
 pub use words::put_number;
 pub use words::put_word;
 
-// The lines of the two programs: `pass JUDGED`, `refused NUMBER PLACE`, `found NUMBER NODE JUDGED` and the route.
+// An answer of one line: `pass JUDGED`, `refused NUMBER PLACE`, `found NUMBER NODE JUDGED` and the route.
 pub enum Line {
     Pass(usize),
     Refused(usize, usize),

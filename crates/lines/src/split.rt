@@ -20,7 +20,8 @@ pub fn first_length(input: &[u8]) -> usize
     length + 4
 }
 
-// The id that stands at the start of the bytes behind a first record. Of its two bytes those that are missing are 0.
+// The id that stands at the start of the bytes behind a first record. Of its two bytes those that are missing are 0, so that one byte
+// alone is the high one, with a zero behind it.
 pub fn named_id(rest: &[u8]) -> u16
     ensures { λ r. ⌜ r ≡ namedOf (now (rest .entry)) ⌝ }
 {
@@ -31,7 +32,7 @@ pub fn named_id(rest: &[u8]) -> u16
     }
 }
 
-// How many bytes there the id takes.
+// How many of these bytes are the id's: two, or all where there are fewer.
 pub fn named_length(rest: &[u8]) -> usize
     ensures { λ r. ⌜ r ≡ min 2 (length (now (rest .entry))) ⌝ }
 {

@@ -1,8 +1,9 @@
 -- The lookup, as the code goes: a part of one record or the other, and an empty one where no node has the id.
 --     row-parts     a row's route stands in the network where the count through both records is within it, and else in the list
 --     box-parts     a box's route, by its row
+--     box-routes    what its bytes say
 --     naming        whether a node has the id
-use mathlib.Core.Path.{_≡_, refl, _∙_}
+use mathlib.Core.Path.{_≡_, refl, ap, _∙_}
 use mathlib.Core.Bool.{Bool, true, false, cond}
 use mathlib.Core.List.{List, []}
 use Prim.Native.Nat.{ℕ, _+_, _-_, _*_, _^_, _≤_, _<_}
@@ -13,12 +14,18 @@ use mir.Val.{Fits}
 use Rattle.records.specs.Edge.{boxed}
 use Rattle.layout.specs.Layout.{nodeCount}
 use Rattle.nodes.specs.Node.{rowOf, isOwn}
-use Rattle.records.proofs.RowLaws.{mark-none, mark-boxed}
+use Rattle.records.proofs.RowLaws.{row-within, row-found, mark-none, mark-boxed}
+use Rattle.routes.specs.Carry.{highest}
+use Rattle.routes.specs.Form.{routeAt}
+use Rattle.routes.specs.declared.Route.{Route}
+use Rattle.networks.specs.Solution.{mapping}
+use Rattle.reading.specs.House.{house}
+use Rattle.reading.specs.Whole.{readNetwork, readList}
 use Rattle.layout.specs.declared.Form.{Form}
 use Rattle.preparing.specs.Parts.{rowPart, namedPart}
 use Rattle.preparing.specs.Prepared.{Listed, Standing, Prepared, standAt, standOf}
-use Rattle.preparing.proofs.PartLaws.{part-is, inEntry, inNode, entry-part-room, node-part-room}
-use Rattle.preparing.proofs.PreparedLaws.{standing-listed, standing-at, prepared-standing, prepared-filled}
+use Rattle.preparing.proofs.PartLaws.{part-is, inEntry, inNode, entry-part-room, node-part-room, row-long, row-route}
+use Rattle.preparing.proofs.PreparedLaws.{standing-listed, standing-at, prepared-standing, prepared-filled, prepared-listed}
 
 -- a row
 module _ (f : Form) (network list stands : List ℕ) (h : Standing f network list stands) (row : ℕ) (l : row < nodeCount network) where
@@ -98,6 +105,31 @@ pub box-is : (f : Form) (network list : List ℕ) (id row : ℕ) (x : List ℕ) 
 box-is f network list id row x e g = rw (← e) g
 
 pub ruleset box-parts = (prepared-standing, prepared-filled, box-is)
+
+-- what they say
+module _ (f : Form) (network list rows stands : List ℕ) (h : Prepared f network list rows stands) (id : ℕ) (b : boxed f network id ≡ true) where
+  all : Listed f network list
+  all = prepared-listed f network list rows stands h
+
+  there : rowOf f network id < nodeCount network
+  there = row-within f network id b
+
+  pub route-wide : 9 ≤ f .route
+  route-wide = all .checked .room .usable .wide
+
+  module _ (x : List ℕ) (g : x ≡ rowPart f network list (rowOf f network id)) where
+    pub route-room : 0 + f .route ≤ length x
+    route-room =
+        let e = ap length g ∙ row-long f network list _ (all .checked .room) (all .entries .formed) there (all .entered _ there) in
+        omega arith
+
+    pub route-is : (r : Route) → r ≡ routeAt (f .route) x 0 → r ≡ mapping (house highest) (readNetwork f network) (readList f list) id
+    route-is r q =
+        q ∙ ap (λ (y : List ℕ). routeAt (f .route) y 0) g
+        ∙ row-route f network list _ (all .checked .room) (all .entries .formed) there (all .entered _ there) (all .checked .rising)
+        ∙ ap (mapping (house highest) (readNetwork f network) (readList f list)) (row-found f network id b)
+
+pub ruleset box-routes = (route-wide, route-room, route-is)
 
 -- whether a node has the id
 module _ (f : Form) (network list rows stands : List ℕ) (h : Prepared f network list rows stands) (id : ℕ) (small : id < 65536) where

@@ -3,7 +3,6 @@
 --     inEntry, inNode                    where the route of a node stands
 --     entry-part-room, node-part-room    the room of the bytes of the route of a node
 --     row-long, row-route                they are as many as a route has, and say what the node holds
---     box-part-room, box-part-route      the same of the box with an id
 use mathlib.Core.Path.{_≡_, refl, sym, ap, ap₂, _∙_}
 use mathlib.Core.Bool.{Bool, true, false, cond}
 use mathlib.Core.List.{List}
@@ -23,15 +22,12 @@ use Rattle.networks.specs.Solution.{mapping}
 use Rattle.layout.specs.Layout.{entryCount, entryOffset, Room, nodeCount, nodeOffset}
 use Rattle.entries.specs.Entries.{entryOf, EntriesFine}
 use Rattle.layout.specs.Form.{listLead}
-use Rattle.nodes.specs.Node.{nodeId, rowOf, isOwn}
-use Rattle.records.specs.Edge.{boxed}
-use Rattle.records.proofs.RowLaws.{row-within, row-found}
+use Rattle.nodes.specs.Node.{nodeId, isOwn}
 use Rattle.layout.proofs.Places.{entry-within, node-fields-room}
 use Rattle.layout.specs.declared.Form.{Form}
 use Rattle.reading.specs.Whole.{readNetwork, readList}
 use Rattle.routes.specs.Carry.{highest}
 use Rattle.preparing.specs.Parts.{routePart, rowPart}
-use Rattle.preparing.specs.Prepared.{Listed}
 use Rattle.preparing.proofs.Said.{listed-at, mapping-own, mapping-input}
 
 -- a part of a record has the record's bytes, and so says the record's route
@@ -114,20 +110,3 @@ module _ (f : Form) (network list : List ℕ) (i : ℕ) where
             ∙ sym (ap (λ (r : Option Route). Option·getD r None) (listed-at f network list (nodeId f network i) (entered q)))
             ∙ sym (mapping-own f network list r i l q)
         go false q = part-route (f .route) network _ wide ∙ sym (mapping-input f network list r i l q)
-
--- the box with an id, whose route is handed back
-module _ (f : Form) (network list : List ℕ) (h : Listed f network list) (id : ℕ) (b : boxed f network id ≡ true)
-    (x : List ℕ) (g : x ≡ rowPart f network list (rowOf f network id)) where
-  there : rowOf f network id < nodeCount network
-  there = row-within f network id b
-
-  pub box-part-room : 0 + f .route ≤ length x
-  box-part-room =
-      let e = ap length g ∙ row-long f network list _ (h .checked .room) (h .entries .formed) there (h .entered _ there) in
-      omega arith
-
-  pub box-part-route : routeAt (f .route) x 0 ≡ mapping (house highest) (readNetwork f network) (readList f list) id
-  box-part-route =
-      ap (λ (y : List ℕ). routeAt (f .route) y 0) g
-      ∙ row-route f network list _ (h .checked .room) (h .entries .formed) there (h .entered _ there) (h .checked .rising)
-      ∙ ap (mapping (house highest) (readNetwork f network) (readList f list)) (row-found f network id b)

@@ -4,6 +4,7 @@ mod lookup;
 mod tables;
 
 pub use lookup::box_part;
+pub use lookup::box_route;
 pub use lookup::named_part;
 pub use lookup::row_part;
 pub use tables::prepare;

@@ -3,6 +3,10 @@ ghost use mathlib.Core.Path.{_≡_};
 ghost use mathlib.Core.Bool.{true};
 ghost use Prim.Native.Nat.{_<_};
 ghost use Rattle.records.specs.Edge.{boxed};
+ghost use Rattle.routes.specs.Carry.{highest};
+ghost use Rattle.networks.specs.Solution.{mapping};
+ghost use Rattle.reading.specs.House.{house};
+ghost use Rattle.reading.specs.Whole.{readNetwork, readList};
 ghost use Rattle.layout.specs.Layout.{nodeCount};
 ghost use Rattle.nodes.specs.Node.{rowOf};
 ghost use Rattle.preparing.specs.Parts.{rowPart, namedPart};
@@ -10,6 +14,8 @@ ghost use Rattle.preparing.specs.Prepared.{Standing, Prepared};
 use layout::Form;
 use layout::ROWS;
 use records::row_in;
+use routes::Route;
+use routes::route_at;
 
 // The route bytes of the node in a row: in the list for an own box, in the network for an input.
 pub fn row_part<'a>(
@@ -47,7 +53,23 @@ pub fn box_part<'a>(
     row_part(form, network, list, stands, row_in(form, network, rows, id))
 }
 
-// The same, or an empty part where no node has the id.
+// The route that the box with an id holds: an own box by the list, an input by assumption.
+pub fn box_route<'a>(
+    form: Form,
+    network: &'a [u8],
+    list: &'a [u8],
+    rows: &[u16; 65536],
+    stands: &[usize; ROWS],
+    id: u16,
+) -> Route
+    requires { ⌜ Prepared form (now network) (now list) (now rows) (now stands) × (boxed form (now network) id ≡ true) ⌝ }
+    ensures { λ r. ⌜ r ≡ mapping (house highest) (readNetwork form (now (network .entry))) (readList form (now (list .entry))) id ⌝ }
+{
+    let part = box_part(form, network, list, rows, stands, id);
+    route_at(form.route, part, 0)
+}
+
+// The route bytes of the box with an id, or an empty part where no node has it.
 pub fn named_part<'a>(
     form: Form,
     network: &'a [u8],

@@ -1,4 +1,4 @@
--- What a box holds and whom it has it from, as the code finds it.
+-- Whom a box has its route from, as the code finds it.
 pub mod SenderLaws
 -- The theorems about trails, on bytes; the walk; how long its lines are.
 pub mod TrailLaws

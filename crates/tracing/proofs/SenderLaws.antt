@@ -1,6 +1,5 @@
--- What a box holds and whom it has it from, as the code finds it: the wires into a box stand one behind another, by rising sender, so that the
+-- Whom a box has its route from, as the code finds it: the wires into a box stand one behind another, by rising sender, so that the
 -- first that gives the route is the lowest sender's.
---     holdings                  the route that a box holds
 --     Supplying, supplying      the loop over the wires into a box
 --     senders                   whether the trail stops at a box
 use mathlib.Core.Path.{_≡_, sym, ap, _∙_}
@@ -16,7 +15,6 @@ use Rattle.lists.specs.Filter.{firstThat}
 use Rattle.lists.proofs.First.{first-le, first-all, first-fails}
 use Rattle.numbers.specs.BigEndian.{u16At}
 use Rattle.routes.specs.Carry.{highest}
-use Rattle.routes.specs.Form.{routeAt}
 use Rattle.routes.specs.Order.{same}
 use Rattle.routes.specs.declared.Demand.{Demand}
 use Rattle.routes.specs.declared.Route.{Route}
@@ -31,10 +29,8 @@ use Rattle.reading.specs.House.{house}
 use Rattle.reading.specs.Parts.{boxAt, wireAt}
 use Rattle.reading.specs.Whole.{HouseNetwork, readNetwork}
 use Rattle.reading.proofs.Said.{own-row, input-row, read-find}
-use Rattle.preparing.specs.Parts.{rowPart}
 use Rattle.preparing.specs.Prepared.{Prepared}
-use Rattle.preparing.proofs.PartLaws.{box-part-room, box-part-route}
-use Rattle.preparing.proofs.PreparedLaws.{prepared-listed, prepared-checked}
+use Rattle.preparing.proofs.PreparedLaws.{prepared-checked}
 use Rattle.boxes.specs.OwnBox.{ownBoxAt}
 use Rattle.boxes.specs.Wires.{WireAt, nextFrom, rowInto, offerAt}
 use Rattle.boxes.specs.declared.NextWire.{NextWire}
@@ -42,20 +38,6 @@ use Rattle.boxes.specs.declared.OwnBox.{OwnBox}
 use Rattle.boxes.proofs.IntoLaws.{wiresFrom, into, wire-mine, wires-skipped, wires-past, NextAt, next-at, next-there, next-into, next-wire, next-less, next-next, next-past, to-climbs}
 use Rattle.tracing.specs.Tracing.{mappingIn, supplierIn, senderIn, senderOf}
 use Rattle.tracing.specs.declared.Sender.{Sender}
-
--- the route that a box holds
-module _ (f : Form) (network list rows stands : List ℕ) (h : Prepared f network list rows stands) (id : ℕ) (b : boxed f network id ≡ true) where
-  pub holding-wide : 9 ≤ f .route
-  holding-wide = prepared-checked f network list rows stands h .room .usable .wide
-
-  module _ (x : List ℕ) (g : x ≡ rowPart f network list (rowOf f network id)) where
-    pub holding-room : 0 + f .route ≤ length x
-    holding-room = box-part-room f network list (prepared-listed f network list rows stands h) id b x g
-
-    pub holding-is : (r : Route) → r ≡ routeAt (f .route) x 0 → r ≡ mappingIn f network list id
-    holding-is r q = q ∙ box-part-route f network list (prepared-listed f network list rows stands h) id b x g
-
-pub ruleset holdings = (holding-wide, holding-room, holding-is)
 
 -- the wires from the j-th on have the first that gives the route
 pub record SupplyingFacts (f : Form) (network list rows stands : List ℕ) (id : ℕ) (route : Route) (wire : NextWire) : Type 0 where

@@ -1,4 +1,7 @@
 -- The walk: a box's line, and behind it the trail from its sender, which holds a cheaper route.
+--     walk-room, walk-next-room     there are offsets for a line, and for the lines behind it
+--     walk-last, walk-more          the trail that ends at the box, and the one that goes on
+--     walk-boxed, walk-cheaper      the sender is a box, and holds a cheaper route
 use mathlib.Core.Path.{_≡_, sym, ap, _∙_}
 use mathlib.Core.Bool.{true}
 use mathlib.Core.List.{List, _++_}

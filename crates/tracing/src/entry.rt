@@ -95,8 +95,8 @@ fn place_shown<'a>(
     place_trail(form, network, list, rows, stands, id, out)
 }
 
-// Places at the start of out, where they fit, the lines of the trail back from the own box with this id, or the judge's line of a list that
-// is refused or fails, or number 18. Answers their length.
+// Places at the start of out, where they fit, the lines of the trail back from the own box with this id, or the judge's line: of a record
+// that is refused, of number 18 where no own box has the id, of a list that fails. Answers their length.
 pub fn trail<'a>(network: &'a [u8], list: &'a [u8], id: u16, out: &mut [u8]) -> usize
     ensures count { λ r. ⌜ r ≡ length (trailOutput (now (network .entry)) (now (list .entry)) id) ⌝ }
     ensures short { λ r. ⌜ r ≤ longestTrail ⌝ }

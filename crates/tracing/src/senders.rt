@@ -1,4 +1,4 @@
-// What a box holds, and the box that it came from.
+// The box that a box has its route from.
 ghost use mathlib.Core.Path.{_≡_};
 ghost use mathlib.Core.Bool.{true};
 ghost use Rattle.records.specs.Edge.{boxed};
@@ -14,32 +14,11 @@ use layout::ROWS;
 use nodes::is_own;
 use numbers::u16_at;
 use numbers::wide16;
-use preparing::box_part;
 use records::row_in;
 use routes::Route;
-use routes::route_at;
 use routes::same;
 
-// The route that a box holds: an own box by the list, an input by assumption.
-pub fn held<'a>(
-    form: Form,
-    network: &'a [u8],
-    list: &'a [u8],
-    rows: &[u16; 65536],
-    stands: &[usize; ROWS],
-    id: u16,
-) -> Route
-    requires { ⌜ Prepared form (now network) (now list) (now rows) (now stands) × (boxed form (now network) id ≡ true) ⌝ }
-    ensures { λ r. ⌜ r ≡ mappingIn form (now (network .entry)) (now (list .entry)) id ⌝ }
-{
-    route_at(
-        form.route,
-        box_part(form, network, list, rows, stands, id),
-        0,
-    )
-}
-
-// The sender with the lowest id that supplies the route that a box holds. The wires into a box stand by rising sender.
+// The sender with the lowest id that supplies the route that a box holds, if one does. The wires into a box stand by rising sender.
 fn supplier<'a>(
     form: Form,
     network: &'a [u8],
@@ -63,8 +42,8 @@ fn supplier<'a>(
     Sender::NoSender
 }
 
-// The box that the trail goes back to from a box that holds a route: none from an input, and none where the box's own initial route is the
-// one that it holds.
+// The box that the trail goes back to from a box that holds this route: none from an input, and none where the box's own initial route is
+// the one that it holds.
 pub fn sender<'a>(
     form: Form,
     network: &'a [u8],

@@ -10,11 +10,11 @@ ghost use Rattle.preparing.specs.Prepared.{Prepared};
 ghost use Rattle.tracing.specs.Tracing.{Passing};
 ghost use Rattle.tracing.specs.Text.{trailFrom};
 use crate::Sender;
-use crate::senders::held;
 use crate::senders::sender;
 use layout::Form;
 use layout::ROWS;
 use lines::put_box;
+use preparing::box_route;
 
 // Puts the lines of the trail back from a box into a lent room. Every wire adds to a route's cost, so that the sender holds a cheaper one: the
 // cost falls at each call, and the walk ends.
@@ -33,7 +33,7 @@ pub fn put_trail<'a>(
     requires { ⌜ at + (length (trailFrom form (now network) (now list) id) + longestBoxLine) < 2 ^ 64 ⌝ }
     ensures { λ r. ⌜ Written (trailFrom form (now (network .entry)) (now (list .entry)) id) (now (room .entry)) at (now (room .exit)) r ⌝ }
 {
-    let route = held(form, network, list, rows, stands, id);
+    let route = box_route(form, network, list, rows, stands, id);
     let next = put_box(id, route, room, at);
     match sender(form, network, list, rows, stands, id, route) {
         Sender::NoSender => next,

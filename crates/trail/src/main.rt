@@ -1,5 +1,5 @@
 // The tracing program: reads a network record, a box's id of two bytes and then a route list record from standard input, and prints the
-// trail back from that box, or the judge's line of a list that is refused or fails.
+// trail back from that box, or the judge's line: of a record or an id that is refused, or of a list that fails.
 ghost use Prim.Native.Nat.{_≤_, _<_};
 ghost use lib.ListN.{length};
 ghost use Rattle.streams.specs.Answers.{Answers};

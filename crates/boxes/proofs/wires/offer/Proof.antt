@@ -10,8 +10,8 @@ add-u16-at c = search (needs, offers)
 u16-at-requires : tie.Need-u16-at-requires
 u16-at-requires c κs = search (needs, offers)
 
-box-part-requires : tie.Need-box-part-requires
-box-part-requires c κs = search (needs, offers)
+box-route-requires : tie.Need-box-route-requires
+box-route-requires c κs = search (needs, offers)
 
 add-wide : tie.Need-add-wide
 add-wide c = search (needs, offers)
@@ -28,9 +28,6 @@ policy-offset-requires c κs = search (needs, offers)
 policy-at-requires : tie.Need-policy-at-requires
 policy-at-requires c κs = search (needs, offers)
 
-route-at-requires : tie.Need-route-at-requires
-route-at-requires c κs = search (needs, offers)
-
 carry-requires : tie.Need-carry-requires
 carry-requires c κs = search (needs, offers)
 
@@ -43,12 +40,11 @@ offer-spec =
     (tie.spec
     add-u16-at
     u16-at-requires
-    box-part-requires
+    box-route-requires
     add-wide
     shared-slice-read-wide
     wide-requires
     policy-offset-requires
     policy-at-requires
-    route-at-requires
     carry-requires
     returns)

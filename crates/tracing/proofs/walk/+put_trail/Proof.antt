@@ -1,4 +1,5 @@
--- A box's line, and behind it the trail from its sender. The measure is what the box's route costs: the sender's costs less.
+-- A box's line, and behind it the trail from its sender. The measure is what the box's route costs: the sender's costs less. What the function is
+-- given stands too deep for a search behind the call, so that it is named there.
 use Rattle.reading.specs.Adding.{costOf}
 use Rattle.tracing.specs.Tracing.{mappingIn}
 use Rattle.tracing.proofs.WalkLaws.{walking, walk-next-room}
@@ -10,7 +11,7 @@ use Rattle.tracing.proofs.walk.put_trail.Reads as put-trail
 use Rattle.tracing.proofs.walk.put_trail.Kinds as put-trail-kinds
 use Rattle.tracing.proofs.walk.+put_trail.Lts-put_trail as put-trail-lts
 use Rattle.lines.proofs.put_box.Reads as put-box-reads
-use Rattle.tracing.proofs.senders.held.Reads as held-reads
+use Rattle.preparing.proofs.box_route.Reads as box-route-reads
 use Rattle.tracing.proofs.senders.sender.Reads as sender-reads
 use Rattle.tracing.proofs.walk.+put_trail.{statement}
 use Rattle.tracing.proofs.walk.+put_trail.Tie.{close}
@@ -25,9 +26,9 @@ abbrev put-trail-below : ℕ → In 4 put-trail-kinds.ps
 put-trail-below t =
     and 4 put-trail-kinds.ps (falls 4 put-trail-kinds.ps _<_ μ-put-trail t) put-trail.Pre
 
-put-trail-held-requires : (t : ℕ) → put-trail-lts.Need-held-requires (
-  held-reads.Asked,
-  held-reads.Learnt,
+put-trail-box-route-requires : (t : ℕ) → put-trail-lts.Need-box-route-requires (
+  box-route-reads.Asked,
+  box-route-reads.Learnt,
   put-box-reads.Asked,
   put-box-reads.Learnt,
   sender-reads.Asked,
@@ -35,11 +36,11 @@ put-trail-held-requires : (t : ℕ) → put-trail-lts.Need-held-requires (
   put-trail-below t,
   put-trail.Post,
 ) (put-trail-at t) put-trail.Post
-put-trail-held-requires t c κs = search needs
+put-trail-box-route-requires t c κs = search needs
 
 put-trail-put-box-requires : (t : ℕ) → put-trail-lts.Need-put-box-requires (
-  held-reads.Asked,
-  held-reads.Learnt,
+  box-route-reads.Asked,
+  box-route-reads.Learnt,
   put-box-reads.Asked,
   put-box-reads.Learnt,
   sender-reads.Asked,
@@ -50,8 +51,8 @@ put-trail-put-box-requires : (t : ℕ) → put-trail-lts.Need-put-box-requires (
 put-trail-put-box-requires t c κs = search (needs, walking)
 
 put-trail-sender-requires : (t : ℕ) → put-trail-lts.Need-sender-requires (
-  held-reads.Asked,
-  held-reads.Learnt,
+  box-route-reads.Asked,
+  box-route-reads.Learnt,
   put-box-reads.Asked,
   put-box-reads.Learnt,
   sender-reads.Asked,
@@ -62,8 +63,8 @@ put-trail-sender-requires : (t : ℕ) → put-trail-lts.Need-sender-requires (
 put-trail-sender-requires t c κs = search needs
 
 put-trail-enum-told : (t : ℕ) → put-trail-lts.Need-enum-told (
-  held-reads.Asked,
-  held-reads.Learnt,
+  box-route-reads.Asked,
+  box-route-reads.Learnt,
   put-box-reads.Asked,
   put-box-reads.Learnt,
   sender-reads.Asked,
@@ -74,8 +75,8 @@ put-trail-enum-told : (t : ℕ) → put-trail-lts.Need-enum-told (
 put-trail-enum-told t c = search (needs, walking)
 
 put-trail-enum-known-from : (t : ℕ) → put-trail-lts.Need-enum-known-from (
-  held-reads.Asked,
-  held-reads.Learnt,
+  box-route-reads.Asked,
+  box-route-reads.Learnt,
   put-box-reads.Asked,
   put-box-reads.Learnt,
   sender-reads.Asked,
@@ -86,8 +87,8 @@ put-trail-enum-known-from : (t : ℕ) → put-trail-lts.Need-enum-known-from (
 put-trail-enum-known-from t c = search (needs, walking)
 
 put-trail-put-trail-requires : (t : ℕ) → put-trail-lts.Need-put-trail-requires (
-  held-reads.Asked,
-  held-reads.Learnt,
+  box-route-reads.Asked,
+  box-route-reads.Learnt,
   put-box-reads.Asked,
   put-box-reads.Learnt,
   sender-reads.Asked,
@@ -100,8 +101,8 @@ put-trail-put-trail-requires t c κs =
     (search walking, ((search needs, search needs), (search walking, search (walk-next-room _ _ _ _ _ (given .0 .0) (given .0 .1)))))
 
 put-trail-same-length : (t : ℕ) → put-trail-lts.Need-same-length (
-  held-reads.Asked,
-  held-reads.Learnt,
+  box-route-reads.Asked,
+  box-route-reads.Learnt,
   put-box-reads.Asked,
   put-box-reads.Learnt,
   sender-reads.Asked,
@@ -112,8 +113,8 @@ put-trail-same-length : (t : ℕ) → put-trail-lts.Need-same-length (
 put-trail-same-length t c = search (needs, walking)
 
 put-trail-returns : (t : ℕ) → put-trail-lts.Need-returns (
-  held-reads.Asked,
-  held-reads.Learnt,
+  box-route-reads.Asked,
+  box-route-reads.Learnt,
   put-box-reads.Asked,
   put-box-reads.Learnt,
   sender-reads.Asked,
@@ -124,8 +125,8 @@ put-trail-returns : (t : ℕ) → put-trail-lts.Need-returns (
 put-trail-returns t c = search (needs, walking)
 
 put-trail-same-length-2 : (t : ℕ) → put-trail-lts.Need-same-length-2 (
-  held-reads.Asked,
-  held-reads.Learnt,
+  box-route-reads.Asked,
+  box-route-reads.Learnt,
   put-box-reads.Asked,
   put-box-reads.Learnt,
   sender-reads.Asked,
@@ -136,8 +137,8 @@ put-trail-same-length-2 : (t : ℕ) → put-trail-lts.Need-same-length-2 (
 put-trail-same-length-2 t c = search (needs, walking)
 
 put-trail-returns-2 : (t : ℕ) → put-trail-lts.Need-returns-2 (
-  held-reads.Asked,
-  held-reads.Learnt,
+  box-route-reads.Asked,
+  box-route-reads.Learnt,
   put-box-reads.Asked,
   put-box-reads.Learnt,
   sender-reads.Asked,
@@ -151,8 +152,8 @@ put-trail-returns-2 t c =
 
 pub +put-trail-spec : {M : Type 1} → statement M
 +put-trail-spec = close μ-put-trail λ t. put-trail-lts.spec (
-  held-reads.Asked,
-  held-reads.Learnt,
+  box-route-reads.Asked,
+  box-route-reads.Learnt,
   put-box-reads.Asked,
   put-box-reads.Learnt,
   sender-reads.Asked,
@@ -162,7 +163,7 @@ pub +put-trail-spec : {M : Type 1} → statement M
 )
     (put-trail-at t)
     put-trail.Post
-    (put-trail-held-requires t)
+    (put-trail-box-route-requires t)
     (put-trail-put-box-requires t)
     (put-trail-sender-requires t)
     (put-trail-enum-told t)
