@@ -7,6 +7,7 @@ use Rattle.boxes.proofs.Faults.{one-fault}
 use Rattle.judging.proofs.Answers.{one-verdict}
 use Rattle.preparing.proofs.row_part.Reads as row-part
 use Rattle.preparing.proofs.box_part.Reads as box-part
+use Rattle.preparing.proofs.box_route.Reads as box-route
 use Rattle.preparing.proofs.named_part.Reads as named-part
 use Rattle.boxes.proofs.own_box.Reads as own-box
 use Rattle.boxes.proofs.fault_at.Reads as fault-at
@@ -24,6 +25,9 @@ one-row-part κs a r r′ e e′ p q = cc
 
 pub one-box-part : (κs : Lfts 3) → One (box-part.Post κs) (λ r e. now r)
 one-box-part κs a r r′ e e′ p q = cc
+
+pub one-box-route : (κs : Lfts 3) → One (box-route.Post κs) (λ r e. r)
+one-box-route κs a r r′ e e′ p q = cc
 
 pub one-named-part : (κs : Lfts 3) → One (named-part.Post κs) (λ r e. now r)
 one-named-part κs a r r′ e e′ p q = cc
