@@ -100,9 +100,13 @@ pub fn offer<'a>(
     requires { ⌜ Prepared form (now network) (now list) (now rows) (now stands) × WireAt form (now network) at ⌝ }
     ensures { λ r. ⌜ r ≡ offerAt form (now (network .entry)) (now (list .entry)) at ⌝ }
 {
-    let route = box_route(form, network, list, rows, stands, u16_at(network, at + 2));
     let policy = policy_at(network, policy_offset(wide(network[at + 4])));
-    carry(HIGHEST, policy, route)
+    let from = u16_at(network, at + 2);
+    carry(
+        HIGHEST,
+        policy,
+        box_route(form, network, list, rows, stands, from),
+    )
 }
 
 // The better of a route and what a wire gives.

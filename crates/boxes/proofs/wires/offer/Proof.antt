@@ -4,15 +4,6 @@ use borrow.Author.Needs.{needs}
 use Rattle.boxes.proofs.wires.offer.Statement.{statement}
 use Rattle.boxes.proofs.wires.offer.Tie as tie
 
-add-u16-at : tie.Need-add-u16-at
-add-u16-at c = search (needs, offers)
-
-u16-at-requires : tie.Need-u16-at-requires
-u16-at-requires c κs = search (needs, offers)
-
-box-route-requires : tie.Need-box-route-requires
-box-route-requires c κs = search (needs, offers)
-
 add-wide : tie.Need-add-wide
 add-wide c = search (needs, offers)
 
@@ -28,6 +19,15 @@ policy-offset-requires c κs = search (needs, offers)
 policy-at-requires : tie.Need-policy-at-requires
 policy-at-requires c κs = search (needs, offers)
 
+add-u16-at : tie.Need-add-u16-at
+add-u16-at c = search (needs, offers)
+
+u16-at-requires : tie.Need-u16-at-requires
+u16-at-requires c κs = search (needs, offers)
+
+box-route-requires : tie.Need-box-route-requires
+box-route-requires c κs = search (needs, offers)
+
 carry-requires : tie.Need-carry-requires
 carry-requires c κs = search (needs, offers)
 
@@ -38,13 +38,13 @@ pub offer-spec : {M : Type 1} → statement M
 offer-spec =
     tie.close
     (tie.spec
-    add-u16-at
-    u16-at-requires
-    box-route-requires
     add-wide
     shared-slice-read-wide
     wide-requires
     policy-offset-requires
     policy-at-requires
+    add-u16-at
+    u16-at-requires
+    box-route-requires
     carry-requires
     returns)
