@@ -62,13 +62,13 @@ module _ (f : Form) (network list rows stands : List ℕ) (h : Prepared f networ
   module _ (i : ℕ) where
     -- the trail stops at the box
     pub from-last : senderIn f network list i ≡ none → trailFrom f network list i ≡ trailLine f network list i
-    unfolding trailFrom trailLines
+    unfolding trailFrom trailLines trailLine
     from-last e = rw (trails.trail-end (house highest) (bounds f) N sound ℒ (house-choice highest) solution (house-costs highest) adds i e) (append-nil (trailLine f network list i))
 
     -- it goes back to another
     module _ (j : ℕ) (e : senderIn f network list i ≡ some j) where
       pub from-next : trailFrom f network list i ≡ trailLine f network list i ++ trailFrom f network list j
-      unfolding trailFrom trailLines
+      unfolding trailFrom trailLines trailLine
       from-next = rw (trails.trail-next (house highest) (bounds f) N sound ℒ (house-choice highest) solution (house-costs highest) adds i j e)
 
       pub sent-boxed : boxed f network j ≡ true
