@@ -1,5 +1,4 @@
 -- Where a route started (document 02, K2), under a mapping ℒ of ids to routes that is a solution.
---     Costs                         why a trail ends: a route costs more behind a wire than before it
 --     Starts, Supplies, Trail       a trail: from a box back over wires, each of which gives the box before it what that holds, to a box that
 --                                   holds its own initial route or an assumed one
 --     supplier, sender, behind, trailBehind     the trail that is shown
@@ -8,7 +7,7 @@ use mathlib.Core.Path.{_≡_}
 use mathlib.Core.Bool.{Bool, true, cond, not}
 use mathlib.Core.Option.{Option, none, some, Option·map, Option·elim}
 use mathlib.Core.List.{List, [], _∷_, map}
-use Prim.Native.Nat.{ℕ, zero, suc, _<_}
+use Prim.Native.Nat.{ℕ, zero, suc}
 use lib.ListN.{length}
 use Rattle.lists.specs.Answer.{Answer, given, refused}
 use Rattle.lists.specs.Filter.{firstThat}
@@ -19,12 +18,6 @@ use Rattle.networks.specs.Sheets.{ListEntry, RouteList}
 use Rattle.networks.specs.Solution.{trans, mapping}
 use Rattle.networks.specs.Judge.{Verdict, pass, found}
 use Rattle.networks.specs.Paper.{edge}
-
--- What gets over a lawful wire costs more than before.
-pub record Costs (𝓐 : Algebra) : Type 1 where
-  pub cost : 𝓐 .Route → ℕ
-  pub Lawful : 𝓐 .Policy → Type 0
-  pub dearer : (p : 𝓐 .Policy) (r : 𝓐 .Route) → Lawful p → (𝓐 .carry p r ≡ 𝓐 .noRoute → ⊥) → cost r < cost (𝓐 .carry p r)
 
 module _ (𝓐 : Algebra) (N : NetworkOver 𝓐) (ℒ : ℕ → 𝓐 .Route) where
   open Algebra 𝓐 using (Route, Demand, same)

@@ -14,13 +14,13 @@ use lib.Seq.{drop-drop}
 use types.Run.{OneOf, miss}
 use denote.Enum.Declared.{tagOf}
 use borrow.Author.Tests.{not-true, not-false}
-use Rattle.lists.specs.Answer.{Answer, given, refused, andThen}
+use Rattle.lists.specs.Answer.{Answer, andThen}
 use Rattle.lists.specs.Laid.{placed}
 use Rattle.lists.proofs.Laid.{placed-fits, stored-over}
 use Rattle.lists.proofs.Test.{and-l}
 use Rattle.routes.specs.Carry.{highest}
 use Rattle.routes.specs.declared.Route.{Route}
-use Rattle.networks.specs.Judge.{Verdict as Judged, pass}
+use Rattle.networks.specs.Judge.{Verdict as Judged}
 use Rattle.networks.specs.Network.{owns}
 use Rattle.networks.specs.Trail.{Shown, showing}
 use Rattle.layout.specs.Form.{formOf}

@@ -9,7 +9,6 @@ use mathlib.Core.List.{List, _++_, append-nil}
 use mathlib.Core.Option.{none, some}
 use Prim.Native.Nat.{ℕ, _≤_, _<_}
 use lib.ListN.{length}
-use Rattle.lists.specs.Answer.{given}
 use Rattle.lists.proofs.Answer.{given-same}
 use Rattle.routes.specs.Carry.{highest}
 use Rattle.routes.specs.declared.Route.{Route}
@@ -22,8 +21,8 @@ use Rattle.networks.proofs.Trails as trails
 use Rattle.layout.specs.declared.Form.{Form}
 use Rattle.records.specs.Checked.{CheckedNetwork}
 use Rattle.records.specs.Edge.{boxed, owned}
-use Rattle.reading.specs.Adding.{Adding, costOf}
-use Rattle.reading.specs.House.{house}
+use Rattle.reading.specs.Adding.{Adding}
+use Rattle.reading.specs.House.{house, costOf}
 use Rattle.reading.specs.Whole.{HouseNetwork, HouseList, bounds, readNetwork, readList}
 use Rattle.reading.proofs.Adding.{fine-adds}
 use Rattle.reading.proofs.HouseRoutes.{house-choice, house-costs}

@@ -1,5 +1,5 @@
 -- A box's line, and behind it the trail from its sender. The measure is what the box's route costs: the sender's costs less.
-use Rattle.reading.specs.Adding.{costOf}
+use Rattle.reading.specs.House.{costOf}
 use Rattle.tracing.specs.Tracing.{mappingIn}
 use Rattle.tracing.proofs.WalkLaws.{walking, walk-next-room}
 use borrow.Author.Needs.{needs}
