@@ -1,9 +1,10 @@
 -- Rows of one width, one after another.
 --     getD-rows, getElem-rows, rows-next     one of them, and the rows that a loop has still to read
 --     rows-back                              values written one after another are read back
+--     laid-map                               images laid down
 use mathlib.Core.Path.{_≡_, refl, sym, ap, ap₂, _∙_}
 use mathlib.Core.Option.{some}
-use mathlib.Core.List.{List, [], _∷_, _++_, append-assoc}
+use mathlib.Core.List.{List, [], _∷_, _++_, map, append-assoc}
 use Prim.Native.Nat.{ℕ, zero, suc, _+_, _*_, _-_, _≤_, _<_}
 use native.Mathlib.Omega.{arith}
 use lib.ListN.{length, getD, getElem?, length-append}
@@ -65,3 +66,7 @@ module _ {A : Type 0} (width : ℕ) (bytes : A → List ℕ) (size : (a : A) →
       where
         turn : pre ++ (bytes x ++ laidRows bytes xs ++ post) ≡ pre ++ bytes x ++ (laidRows bytes xs ++ post)
         turn = simp append-assoc
+
+pub laid-map : {A B : Type 0} (bytes : B → List ℕ) (image : A → B) (xs : List A) → laidRows bytes (map image xs) ≡ laidRows (λ (x : A). bytes (image x)) xs
+laid-map bytes image [] = refl
+laid-map bytes image (x ∷ xs) = ap (_++_ (bytes (image x))) (laid-map bytes image xs)

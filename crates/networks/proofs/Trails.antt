@@ -26,12 +26,12 @@ use Rattle.lists.specs.Filter.{filter}
 use Rattle.lists.proofs.Filter.{any-mapped, firstThat-meets, length-filter, length-fewer}
 use Rattle.lists.proofs.Sorted.{find-key, find-all, firstThat-lowest}
 use Rattle.lists.proofs.Test.{and-i, yes-or-no, le-or-lt}
-use Rattle.networks.specs.Algebra.{Algebra, Choice}
+use Rattle.networks.specs.Algebra.{Algebra, Choice, Costs}
 use Rattle.networks.specs.Network.{Own, Input, Box, own, input, Wire, NetworkOver, boxId, isBox, isOwnBox, ownBoxes, inputs, box, hasBox, owns, wiresInto}
 use Rattle.networks.specs.Paper.{edge}
 use Rattle.networks.specs.Solution.{trans, offers, due, Solution}
 use Rattle.networks.specs.Sound.{Bounds, Joined, Sound}
-use Rattle.networks.specs.Trail.{Costs, StartedBy, Starts, Supplies, Trail, gives, supplier, stops, sender, behind, trailBehind}
+use Rattle.networks.specs.Trail.{StartedBy, Starts, Supplies, Trail, gives, supplier, stops, sender, behind, trailBehind}
 use Rattle.networks.proofs.BestRoute.{due-offered}
 use Rattle.networks.proofs.Laws.Boxes.{own-found, input-found, own-there, own-box, own-any}
 use Rattle.networks.proofs.Laws.Senders.{goes-on, supplier-wire, supplier-none, behind-end, behind-next}

@@ -2,9 +2,11 @@
 --     Algebra     routes, policies and demands; of them only that `same` tells whether two routes are equal
 --     Choice      the laws that make the best of several routes one route; the theorems that need them say so
 --     AtLeast     the order that these laws make of `best`
+--     Costs       what routes cost, where a lawful wire makes them dearer: a trail then ends
 use mathlib.Core.Path.{_≡_}
 use mathlib.Core.Bool.{Bool, true}
 use mathlib.Core.Logic.{_⊎_}
+use Prim.Native.Nat.{ℕ, _<_}
 
 pub record Algebra : Type 1 where
   pub Route : Type 0
@@ -35,3 +37,9 @@ pub record Choice (𝓐 : Algebra) : Type 0 where
 -- x is at least as good as y
 abbrev pub AtLeast : (𝓐 : Algebra) → 𝓐 .Route → 𝓐 .Route → Type 0
 AtLeast 𝓐 x y = 𝓐 .best x y ≡ x
+
+-- What gets over a lawful wire costs more than before.
+pub record Costs (𝓐 : Algebra) : Type 1 where
+  pub cost : 𝓐 .Route → ℕ
+  pub Lawful : 𝓐 .Policy → Type 0
+  pub dearer : (p : 𝓐 .Policy) (r : 𝓐 .Route) → Lawful p → (𝓐 .carry p r ≡ 𝓐 .noRoute → ⊥) → cost r < cost (𝓐 .carry p r)

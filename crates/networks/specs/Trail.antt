@@ -1,30 +1,23 @@
 -- Where a route started (document 02, K2), under a mapping ℒ of ids to routes that is a solution.
---     Costs                         why a trail ends: a route costs more behind a wire than before it
 --     Starts, Supplies, Trail       a trail: from a box back over wires, each of which gives the box before it what that holds, to a box that
 --                                   holds its own initial route or an assumed one
 --     supplier, sender, behind, trailBehind     the trail that is shown
---     Shown, tracing                the answer: a trail, or the finding of a list that fails
+--     holding, Shown, showing       the answer: the boxes of a trail with what they hold, or the finding of a list that fails
 use mathlib.Core.Path.{_≡_}
 use mathlib.Core.Bool.{Bool, true, cond, not}
 use mathlib.Core.Option.{Option, none, some, Option·map, Option·elim}
-use mathlib.Core.List.{List, [], _∷_}
-use Prim.Native.Nat.{ℕ, zero, suc, _<_}
+use mathlib.Core.List.{List, [], _∷_, map}
+use Prim.Native.Nat.{ℕ, zero, suc}
 use lib.ListN.{length}
-use Rattle.lists.specs.Answer.{Answer, given, refused, andThen}
+use Rattle.lists.specs.Answer.{Answer, given, refused}
 use Rattle.lists.specs.Filter.{firstThat}
 use Rattle.lists.specs.Test.{firstOf}
 use Rattle.networks.specs.Algebra.{Algebra}
 use Rattle.networks.specs.Network.{Box, own, input, Wire, NetworkOver, ownBoxes, box, owns, wiresInto}
-use Rattle.networks.specs.Sheets.{RouteList}
+use Rattle.networks.specs.Sheets.{ListEntry, RouteList}
 use Rattle.networks.specs.Solution.{trans, mapping}
-use Rattle.networks.specs.Judge.{Verdict, pass, found, judge}
+use Rattle.networks.specs.Judge.{Verdict, pass, found}
 use Rattle.networks.specs.Paper.{edge}
-
--- What gets over a lawful wire costs more than before.
-pub record Costs (𝓐 : Algebra) : Type 1 where
-  pub cost : 𝓐 .Route → ℕ
-  pub Lawful : 𝓐 .Policy → Type 0
-  pub dearer : (p : 𝓐 .Policy) (r : 𝓐 .Route) → Lawful p → (𝓐 .carry p r ≡ 𝓐 .noRoute → ⊥) → cost r < cost (𝓐 .carry p r)
 
 module _ (𝓐 : Algebra) (N : NetworkOver 𝓐) (ℒ : ℕ → 𝓐 .Route) where
   open Algebra 𝓐 using (Route, Demand, same)
@@ -74,13 +67,17 @@ module _ (𝓐 : Algebra) (N : NetworkOver 𝓐) (ℒ : ℕ → 𝓐 .Route) whe
   unfoldable pub trailBehind : ℕ → List ℕ
   trailBehind i = behind (length (ownBoxes N)) i
 
+  -- these boxes, each with the route that it holds
+  abbrev pub holding : List ℕ → List (ListEntry Route)
+  holding = map (λ (j : ℕ). record { id = j; route = ℒ j })
+
 -- The boxes of a trail, or a finding with its number, box, route and count.
 pub data Shown (R : Type 0) : Type 0 where
-  trail : List ℕ → Shown R
+  trail : List (ListEntry R) → Shown R
   fails : (number node : ℕ) → R → (count : ℕ) → Shown R
 
 -- what is shown after a verdict
-abbrev pub shownAfter : {R : Type 0} → Verdict R → List ℕ → Shown R
+abbrev pub shownAfter : {R : Type 0} → Verdict R → List (ListEntry R) → Shown R
 shownAfter (pass count) boxes = trail boxes
 shownAfter (found number node route count) boxes = fails number node route count
 
@@ -90,7 +87,4 @@ module _ (𝓐 : Algebra) (N : NetworkOver 𝓐) (L : RouteList (𝓐 .Route)) (
   namedTable = (not (owns N i), refused 18 i) ∷ []
 
   unfoldable pub showing : Verdict (𝓐 .Route) → Answer (Shown (𝓐 .Route))
-  showing verdict = firstOf namedTable (given (shownAfter verdict (i ∷ trailBehind 𝓐 N (mapping 𝓐 N L) i)))
-
-  unfoldable pub tracing : Answer (Shown (𝓐 .Route))
-  tracing = andThen (judge 𝓐 N L) showing
+  showing verdict = firstOf namedTable (given (shownAfter verdict (holding 𝓐 N (mapping 𝓐 N L) (i ∷ trailBehind 𝓐 N (mapping 𝓐 N L) i))))

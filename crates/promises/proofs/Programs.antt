@@ -20,7 +20,7 @@ use Rattle.routes.specs.declared.Route.{Route}
 use Rattle.networks.specs.Judge.{Verdict, pass, found}
 use Rattle.networks.specs.Network.{owns}
 use Rattle.networks.specs.Solution.{mapping}
-use Rattle.networks.specs.Trail.{Shown, shownAfter, showing, trailBehind}
+use Rattle.networks.specs.Trail.{Shown, shownAfter, showing, trailBehind, holding}
 use Rattle.layout.specs.Form.{nodeWidth, formOf, widest}
 use Rattle.layout.specs.declared.Form.{Form}
 use Rattle.reading.specs.Largest.{largestNetwork}
@@ -35,7 +35,7 @@ use Rattle.counting.specs.Lines.{censusLines}
 use Rattle.counting.specs.Text.{censusOf, behindPass, censusRecords, censusText}
 use Rattle.counting.proofs.Lengths.{census-start}
 use Rattle.tracing.specs.Tracing.{showRecords}
-use Rattle.tracing.specs.Text.{trailLine, trailLines, shownText, trailText, trailOutput}
+use Rattle.tracing.specs.Text.{trailLines, shownText, trailText, trailOutput}
 use Rattle.tracing.proofs.Lengths.{trail-start}
 use Rattle.cutting.specs.Cutting.{cutNetwork}
 use Rattle.cutting.specs.Text.{cutOutput, askedOf, behindAsked, cutBound, cutText}
@@ -140,36 +140,32 @@ cut-shows input =
     let written = cut-writes input in
     ap (take 1) written ∙ output-first (formOf (firstRecord input)) (inputCut input) (rw written at (cut-short input))
 
+-- what is shown of the records in an input, whatever its length
+abbrev within : List ℕ → Answer (Shown Route)
+within input = showRecords (firstRecord input) (behindNamed (restOf input)) (namedOf (restOf input))
+
 pub trail-prints : (input : List ℕ) → TrailPrints input
 unfolding trailText withinBound trailOutput shownText
 trail-prints input = go (ltb namingBound (length input))
   where
-    network : List ℕ
-    network = firstRecord input
-
-    list : List ℕ
-    list = behindNamed (restOf input)
-
-    a : Answer (Shown Route)
-    a = showRecords network list (namedOf (restOf input))
-
-    go : (t : Bool) → cond t (refusedLine 5 namingBound) (shownText (formOf network) network list a)
-        ≡ shownText (formOf network) network list (firstOf ((t, refused 5 namingBound) ∷ []) a)
+    go : (t : Bool) → cond t (refusedLine 5 namingBound) (shownText (within input)) ≡ shownText (firstOf ((t, refused 5 namingBound) ∷ []) (within input))
     go true = refl
     go false = refl
 
 -- a trail begins with the line of the box that is named, and so with a digit of its id
-shown-first : (network list : List ℕ) (id : ℕ)
-    → TrailMarked (showRecords network list id) (take 1 (shownText (formOf network) network list (showRecords network list id)))
-unfolding showRecords showing shownText trailLines trailLine boxLine refusedLine foundLine line
+shown-first : (network list : List ℕ) (id : ℕ) → TrailMarked (showRecords network list id) (take 1 (shownText (showRecords network list id)))
+unfolding showRecords showing shownText trailLines boxLine refusedLine foundLine line
 shown-first network list id = go (judgeRecords network list) (owns (networkOf network) id)
   where
+    ℒ : ℕ → Route
+    ℒ = mapping house1 (networkOf network) (listOf list)
+
     -- what is shown after an answer of the judge's, where there is such an own box or not
     after : Answer (Verdict Route) → Bool → Answer (Shown Route)
     after a t = andThen a (λ (verdict : Verdict Route). firstOf ((not t, refused 18 id) ∷ [])
-        (given (shownAfter verdict (id ∷ trailBehind house1 (networkOf network) (mapping house1 (networkOf network) (listOf list)) id))))
+        (given (shownAfter verdict (holding house1 (networkOf network) ℒ (id ∷ trailBehind house1 (networkOf network) ℒ id)))))
 
-    go : (a : Answer (Verdict Route)) (t : Bool) → TrailMarked (after a t) (take 1 (shownText (formOf network) network list (after a t)))
+    go : (a : Answer (Verdict Route)) (t : Bool) → TrailMarked (after a t) (take 1 (shownText (after a t)))
     go (given (pass count)) true = let d = decimal-first id in (d .0, d .2, d .3, rw (d .4) refl)
     go (given (pass count)) false = refl
     go (given (found number node route count)) true = refl
@@ -181,16 +177,7 @@ unfolding shownText refusedLine line
 trail-shows input = subst (λ (out : List ℕ). TrailMarked (inputShown input) (take 1 out)) (sym (trail-prints input))
     (go (ltb namingBound (length input)))
   where
-    network : List ℕ
-    network = firstRecord input
-
-    list : List ℕ
-    list = behindNamed (restOf input)
-
-    a : Answer (Shown Route)
-    a = showRecords network list (namedOf (restOf input))
-
-    go : (t : Bool) → TrailMarked (firstOf ((t, refused 5 namingBound) ∷ []) a)
-        (take 1 (shownText (formOf network) network list (firstOf ((t, refused 5 namingBound) ∷ []) a)))
+    go : (t : Bool) → TrailMarked (firstOf ((t, refused 5 namingBound) ∷ []) (within input))
+        (take 1 (shownText (firstOf ((t, refused 5 namingBound) ∷ []) (within input))))
     go true = refl
-    go false = shown-first network list (namedOf (restOf input))
+    go false = shown-first (firstRecord input) (behindNamed (restOf input)) (namedOf (restOf input))

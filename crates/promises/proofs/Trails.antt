@@ -11,30 +11,29 @@ use Rattle.lists.proofs.All.{all-map, all-both}
 use Rattle.lists.specs.Answer.{given, isSome}
 use Rattle.lists.specs.Bytes.{Bytes}
 use Rattle.lists.specs.Rows.{laidRows}
+use Rattle.lists.proofs.Rows.{laid-map}
 use Rattle.routes.specs.Carry.{highest}
 use Rattle.routes.specs.declared.Route.{Route}
 use Rattle.routes.specs.declared.Route.the-variants.{None}
 use Rattle.networks.specs.Lowest.{Entered}
 use Rattle.networks.specs.Network.{ownBoxes, hasBox, owns}
-use Rattle.networks.specs.Sheets.{listed}
-use Rattle.networks.specs.Solution.{mapping, Solution}
+use Rattle.networks.specs.Sheets.{ListEntry, listed}
+use Rattle.networks.specs.Solution.{Solution}
 use Rattle.networks.specs.Sound.{Sound}
-use Rattle.networks.specs.Trail.{trail, trailBehind, showing}
+use Rattle.networks.specs.Trail.{trail, trailBehind, holding, showing}
 use Rattle.networks.proofs.Laws.Boxes.{own-box}
 use Rattle.networks.proofs.Laws.Judging.{own-held}
 use Rattle.networks.proofs.Trails as trails
 use Rattle.layout.specs.Form.{formOf}
-use Rattle.layout.specs.declared.Form.{Form}
-use Rattle.layout.proofs.OneForm.{one-form}
 use Rattle.records.specs.Network.{SoundRecord}
 use Rattle.reading.specs.Adding.{Adding}
-use Rattle.reading.specs.Whole.{HouseNetwork, HouseList, bounds, readList, networkOf, listOf}
+use Rattle.reading.specs.Whole.{HouseNetwork, HouseList, bounds, networkOf, listOf}
 use Rattle.reading.proofs.Bridges.{read-network}
 use Rattle.reading.proofs.HouseRoutes.{house-choice, house-costs}
 use Rattle.lines.specs.Line.{boxLine}
 use Rattle.judging.specs.Text.{verdictLine}
 use Rattle.tracing.specs.Tracing.{showRecords}
-use Rattle.tracing.specs.Text.{trailLine, trailLines, shownText, trailOutput}
+use Rattle.tracing.specs.Text.{trailLines, shownText, trailOutput}
 use Rattle.promises.specs.Calls.{house1, Passes}
 use Rattle.promises.specs.Trails.{holds, Back, Short, Followed, TrailExists, EveryTrail, TrailShown, OneFollowed, HoldsNone, ShownRefused, FromNowhere}
 use Rattle.promises.proofs.Demand2.{passes-exactly}
@@ -98,15 +97,14 @@ module _ (network list : List ℕ) where
           r (trails.sender-there house1 (bounds (formOf network)) N sound ℒ i j q),
         ))
 
-    shown : (i : ℕ) → owns N i ≡ true → showRecords network list i ≡ given (trail (i ∷ back i))
+    shown : (i : ℕ) → owns N i ≡ true → showRecords network list i ≡ given (trail (holding house1 N ℒ (i ∷ back i)))
     unfolding showRecords showing
     shown i t = rw (passes .1, t) refl
 
-    -- the list's routes are read by the one form that records have
     printed : (i : ℕ) → owns N i ≡ true → trailOutput network list i ≡ laidRows (λ (k : ℕ). boxLine k (ℒ k)) (i ∷ back i)
-    unfolding trailOutput shownText trailLines trailLine
-    printed i t = ap (shownText (formOf network) network list) (shown i t)
-        ∙ ap (λ (f : Form). laidRows (λ (k : ℕ). boxLine k (mapping house1 N (readList f list) k)) (i ∷ back i)) (one-form network list)
+    unfolding trailOutput shownText trailLines
+    printed i t = ap shownText (shown i t)
+        ∙ laid-map (λ (e : ListEntry Route). boxLine (e .id) (e .route)) (λ (k : ℕ). record { id = k; route = ℒ k }) (i ∷ back i)
 
   pub trail-exists : TrailExists network list
   trail-exists small passes i t present = (back i, shown-back small passes i t, shown-short small passes i t)

@@ -42,7 +42,7 @@ use Rattle.lines.specs.Split.{firstLength}
 use Rattle.judging.specs.Judging.{judgeRecords}
 use Rattle.judging.specs.Text.{verdictLine, judgeBound, namingBound, judgeText}
 use Rattle.tracing.specs.Tracing.{showRecords}
-use Rattle.tracing.specs.Text.{trailLine, trailLines, shownText, trailOutput, trailText}
+use Rattle.tracing.specs.Text.{trailLines, shownText, trailOutput, trailText}
 use Rattle.cutting.specs.Cutting.{cutNetwork, cutRecords}
 use Rattle.promises.specs.BenchNetworks.{held, adds, masks, chainRecord, twoAnswers, listing, splitting, pairRecord, pairListing, fedRecord, fedListing}
 
@@ -141,5 +141,5 @@ unfolding firstBad every least place at filterMap Option·elim
     demandAt demandBytes promiseAt promiseBytes boxAt boxBytes wireAt wireBytes sheetEntryAt sheetEntryBytes listEntryAt listEntryBytes
     readNetwork writeNetwork readSheet writeSheet readList writeList largestNetwork largestEntries
     line spaced routeWords passLine refusedLine foundLine boxLine withinBound firstLength judgeRecords verdictLine judgeBound judgeText cutNetwork cutRecords
-    namingBound showRecords trailLine trailLines shownText trailOutput trailText
+    namingBound showRecords trailLines shownText trailOutput trailText
 bench-holds = refl

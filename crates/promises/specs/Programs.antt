@@ -64,7 +64,7 @@ abbrev pub CensusPrints : List ℕ → Type 0
 CensusPrints input = censusText input ≡ judgeText input ++ behindPass (inputJudged input) (censusLines (censusOf (firstRecord input) (restOf input)))
 
 abbrev pub TrailPrints : List ℕ → Type 0
-TrailPrints input = trailText input ≡ shownText (formOf (firstRecord input)) (firstRecord input) (behindNamed (restOf input)) (inputShown input)
+TrailPrints input = trailText input ≡ shownText (inputShown input)
 
 -- The judge's line begins with a `p` on a pass, with an `f` on a finding, with an `r` on a refusal.
 abbrev pub judgeMark : Answer (Verdict Route) → List ℕ

@@ -7,10 +7,8 @@ use Rattle.routes.specs.declared.Route.{Route}
 use Rattle.routes.specs.declared.Route.the-variants.{None, Held}
 use Rattle.routes.proofs.Ordered.{better-selective, better-commutative, better-associative, better-none-right}
 use Rattle.routes.proofs.Carried.{carry-none, carry-dearer}
-use Rattle.networks.specs.Algebra.{Choice}
-use Rattle.networks.specs.Trail.{Costs}
-use Rattle.reading.specs.Adding.{costOf}
-use Rattle.reading.specs.House.{house}
+use Rattle.networks.specs.Algebra.{Choice, Costs}
+use Rattle.reading.specs.House.{house, costOf}
 
 pub house-choice : (top : ℕ) → Choice (house top)
 house-choice top = record {

@@ -1,10 +1,10 @@
--- The house's routes as a routing algebra, over the highest cost that a wire may give.
+-- The house's routes as a routing algebra, over the highest cost that a wire may give, and what a route costs.
 use Prim.Native.Nat.{ℕ}
 use Rattle.lists.specs.Best.{best}
 use Rattle.routes.specs.declared.Demand.{Demand}
 use Rattle.routes.specs.declared.Policy.{Policy}
 use Rattle.routes.specs.declared.Route.{Route}
-use Rattle.routes.specs.declared.Route.the-variants.{None}
+use Rattle.routes.specs.declared.Route.the-variants.{None, Held}
 use Rattle.routes.specs.Order.{beats, same}
 use Rattle.routes.specs.Carry.{carried}
 use Rattle.routes.specs.Demand.{meets}
@@ -24,3 +24,8 @@ house top = record {
   same-true = same-true;
   same-self = same-refl;
 }
+
+-- none costs nothing
+abbrev pub costOf : Route → ℕ
+costOf None = 0
+costOf (Held f) = f .cost

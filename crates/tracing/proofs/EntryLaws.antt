@@ -14,13 +14,13 @@ use lib.Seq.{drop-drop}
 use types.Run.{OneOf, miss}
 use denote.Enum.Declared.{tagOf}
 use borrow.Author.Tests.{not-true, not-false}
-use Rattle.lists.specs.Answer.{Answer, given, refused, andThen}
+use Rattle.lists.specs.Answer.{Answer, andThen}
 use Rattle.lists.specs.Laid.{placed}
 use Rattle.lists.proofs.Laid.{placed-fits, stored-over}
 use Rattle.lists.proofs.Test.{and-l}
 use Rattle.routes.specs.Carry.{highest}
 use Rattle.routes.specs.declared.Route.{Route}
-use Rattle.networks.specs.Judge.{Verdict as Judged, pass}
+use Rattle.networks.specs.Judge.{Verdict as Judged}
 use Rattle.networks.specs.Network.{owns}
 use Rattle.networks.specs.Trail.{Shown, showing}
 use Rattle.layout.specs.Form.{formOf}
@@ -124,11 +124,11 @@ module _ (f : Form) (network list : List ℕ) (id : ℕ) (t : Bool) (o : t ≡ o
       trail-told = rw (← h, e, owns-is, not-false t z)
 
     module _ (k : OneOf (1 ∷ 2 ∷ 3 ∷ 4 ∷ []) (tagOf the-type v)) (l : Line) (m : lineBytes l ≡ verdictLine (answerOf v)) where
-      alone : verdictLine (answerOf v) ≡ shownText f network list (after (answerOf v))
+      alone : verdictLine (answerOf v) ≡ shownText (after (answerOf v))
       unfolding showing shownText verdictLine
       alone = go v k
         where
-          go : (w : Verdict) → OneOf (1 ∷ 2 ∷ 3 ∷ 4 ∷ []) (tagOf the-type w) → verdictLine (answerOf w) ≡ shownText f network list (after (answerOf w))
+          go : (w : Verdict) → OneOf (1 ∷ 2 ∷ 3 ∷ 4 ∷ []) (tagOf the-type w) → verdictLine (answerOf w) ≡ shownText (after (answerOf w))
           go (Pass n) j = absurd (miss (1 ∷ 2 ∷ 3 ∷ 4 ∷ []) 0 tt j)
           go (NotDue x) j = rw (owns-is, not-false t z)
           go (PromiseBroken x) j = rw (owns-is, not-false t z)
@@ -137,7 +137,7 @@ module _ (f : Form) (network list : List ℕ) (id : ℕ) (t : Bool) (o : t ≡ o
 
       pub line-told : lineBytes l ≡ told
       unfolding outputAt shownAt
-      line-told = m ∙ alone ∙ ap (λ (a : Answer (Judged Route)). shownText f network list (after a)) h
+      line-told = m ∙ alone ∙ ap (λ (a : Answer (Judged Route)). shownText (after a)) h
 
 pub ruleset showings = (shown-tabled, none-told, owned-told, pass-told, trail-told, line-told)
 

@@ -7,14 +7,15 @@ use mathlib.Core.Bool.{true}
 use mathlib.Core.List.{List, [], _∷_, _++_}
 use Prim.Native.Nat.{ℕ, _+_, _-_, _*_, _≤_, _<_}
 use native.Mathlib.Omega.{arith}
-use lib.ListN.{length, take, drop, length-append}
+use lib.ListN.{length, take, drop, length-append, length-map}
 use Rattle.lists.specs.Laid.{placed}
-use Rattle.lists.specs.Rows.{laidRows}
 use Rattle.lists.proofs.Filter.{length-filterMap}
 use Rattle.lists.proofs.Rows.{length-rows}
 use Rattle.routes.specs.Carry.{highest}
+use Rattle.routes.specs.declared.Route.{Route}
 use Rattle.networks.specs.Network.{asOwn, ownBoxes}
-use Rattle.networks.specs.Trail.{trailBehind}
+use Rattle.networks.specs.Sheets.{ListEntry}
+use Rattle.networks.specs.Trail.{trailBehind, holding}
 use Rattle.layout.specs.Form.{nodeWidth}
 use Rattle.layout.specs.Layout.{nodeCount, nodePart}
 use Rattle.layout.specs.declared.Form.{Form}
@@ -22,7 +23,7 @@ use Rattle.records.specs.Edge.{owned}
 use Rattle.reading.specs.House.{house}
 use Rattle.reading.specs.Parts.{boxAt}
 use Rattle.reading.specs.Whole.{readNetwork}
-use Rattle.lines.specs.Line.{lineBytes, longestBoxLine}
+use Rattle.lines.specs.Line.{boxLine, lineBytes, longestBoxLine}
 use Rattle.lines.specs.declared.Line.{Line}
 use Rattle.lines.proofs.Answers.{answer-read}
 use Rattle.lines.proofs.Lengths.{line-length, box-length}
@@ -30,17 +31,17 @@ use Rattle.lines.proofs.Starts.{bound-start}
 use Rattle.preparing.specs.Prepared.{Prepared}
 use Rattle.preparing.proofs.PreparedLaws.{prepared-checked}
 use Rattle.judging.specs.Text.{namingBound}
-use Rattle.tracing.specs.Text.{trailLine, trailLines, trailFrom, longestTrail, trailText}
+use Rattle.tracing.specs.Text.{trailLines, trailFrom, longestTrail, trailText}
 use Rattle.tracing.specs.Tracing.{mappingIn, Passing}
 use Rattle.tracing.proofs.TrailLaws.{behind-few}
 
-lines-short : (f : Form) (network list boxes : List ℕ) → length (trailLines f network list boxes) ≤ longestBoxLine * length boxes
-unfolding trailLines trailLine
-lines-short f network list [] = omega arith
-lines-short f network list (i ∷ is) =
-    let l = box-length i (mappingIn f network list i) in
-    let r = lines-short f network list is in
-    omega (arith, length-append (trailLine f network list i) (laidRows (trailLine f network list) is))
+lines-short : (boxes : List (ListEntry Route)) → length (trailLines boxes) ≤ longestBoxLine * length boxes
+unfolding trailLines
+lines-short [] = omega arith
+lines-short (e ∷ es) =
+    let l = box-length (e .id) (e .route) in
+    let r = lines-short es in
+    omega (arith, length-append (boxLine (e .id) (e .route)) (trailLines es))
 
 module _ (f : Form) (network list rows stands : List ℕ) (h : Prepared f network list rows stands) (p : Passing f network list) (id : ℕ) where
   -- a table has a row for each own box
@@ -57,11 +58,12 @@ module _ (f : Form) (network list rows stands : List ℕ) (h : Prepared f networ
   pub from-short : owned f network id ≡ true → length (trailFrom f network list id) ≤ longestTrail
   unfolding trailFrom
   from-short o =
-      let behind = trailBehind (house highest) (readNetwork f network) (mappingIn f network list) id in
+      let ℒ = mappingIn f network list in
+      let behind = trailBehind (house highest) (readNetwork f network) ℒ id in
       let few = behind-few f network list rows stands h p id o in
       let own = own-few in
-      let l = lines-short f network list (id ∷ behind) in
-      omega arith
+      let l = lines-short (holding (house highest) (readNetwork f network) ℒ (id ∷ behind)) in
+      omega (arith, length-map {B = ListEntry Route} behind (λ (j : ℕ). record { id = j; route = ℒ j }))
 
 -- the line of a verdict
 pub line-short : (l : Line) (r : ℕ) → r ≡ length (lineBytes l) → r ≤ longestTrail

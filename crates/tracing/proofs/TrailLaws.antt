@@ -9,7 +9,6 @@ use mathlib.Core.List.{List, _++_, append-nil}
 use mathlib.Core.Option.{none, some}
 use Prim.Native.Nat.{ℕ, _≤_, _<_}
 use lib.ListN.{length}
-use Rattle.lists.specs.Answer.{given}
 use Rattle.lists.proofs.Answer.{given-same}
 use Rattle.routes.specs.Carry.{highest}
 use Rattle.routes.specs.declared.Route.{Route}
@@ -22,8 +21,8 @@ use Rattle.networks.proofs.Trails as trails
 use Rattle.layout.specs.declared.Form.{Form}
 use Rattle.records.specs.Checked.{CheckedNetwork}
 use Rattle.records.specs.Edge.{boxed, owned}
-use Rattle.reading.specs.Adding.{Adding, costOf}
-use Rattle.reading.specs.House.{house}
+use Rattle.reading.specs.Adding.{Adding}
+use Rattle.reading.specs.House.{house, costOf}
 use Rattle.reading.specs.Whole.{HouseNetwork, HouseList, bounds, readNetwork, readList}
 use Rattle.reading.proofs.Adding.{fine-adds}
 use Rattle.reading.proofs.HouseRoutes.{house-choice, house-costs}
@@ -62,13 +61,13 @@ module _ (f : Form) (network list rows stands : List ℕ) (h : Prepared f networ
   module _ (i : ℕ) where
     -- the trail stops at the box
     pub from-last : senderIn f network list i ≡ none → trailFrom f network list i ≡ trailLine f network list i
-    unfolding trailFrom trailLines
+    unfolding trailFrom trailLines trailLine
     from-last e = rw (trails.trail-end (house highest) (bounds f) N sound ℒ (house-choice highest) solution (house-costs highest) adds i e) (append-nil (trailLine f network list i))
 
     -- it goes back to another
     module _ (j : ℕ) (e : senderIn f network list i ≡ some j) where
       pub from-next : trailFrom f network list i ≡ trailLine f network list i ++ trailFrom f network list j
-      unfolding trailFrom trailLines
+      unfolding trailFrom trailLines trailLine
       from-next = rw (trails.trail-next (house highest) (bounds f) N sound ℒ (house-choice highest) solution (house-costs highest) adds i j e)
 
       pub sent-boxed : boxed f network j ≡ true

@@ -11,7 +11,7 @@ use lib.ListN.{length, length-append}
 use Rattle.routes.specs.declared.Route.{Route}
 use Rattle.layout.specs.declared.Form.{Form}
 use Rattle.records.specs.Edge.{boxed}
-use Rattle.reading.specs.Adding.{costOf}
+use Rattle.reading.specs.House.{costOf}
 use Rattle.lines.specs.Line.{boxLine, longestBoxLine}
 use Rattle.lines.specs.Written.{Written}
 use Rattle.lines.proofs.Writing.{written-then}

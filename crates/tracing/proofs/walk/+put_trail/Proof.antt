@@ -1,6 +1,6 @@
 -- A box's line, and behind it the trail from its sender. The measure is what the box's route costs: the sender's costs less. What the function is
 -- given stands too deep for a search behind the call, so that it is named there.
-use Rattle.reading.specs.Adding.{costOf}
+use Rattle.reading.specs.House.{costOf}
 use Rattle.tracing.specs.Tracing.{mappingIn}
 use Rattle.tracing.proofs.WalkLaws.{walking, walk-next-room}
 use borrow.Author.Needs.{needs}
