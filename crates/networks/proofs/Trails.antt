@@ -1,6 +1,6 @@
 -- Every route has a trail back to where it started. A due route is the box's own initial one, or a wire supplies it. What a wire supplies costs
--- more than the sender's route, so that going back ends. The own boxes whose routes cost no more than a box's are fewer at each step back, since
--- the box that was left is one of them and is none of those that cost no more than its sender's: so a trail has no more wires than own boxes.
+-- more than the sender's route, so that going back ends. The own boxes whose routes cost no more than a box's are fewer at each step back
+-- (Laws/Ranks.antt): so a trail has no more wires than own boxes.
 --     sender-supplies, sender-there                    the box that the trail goes back to
 --     lowest-supplier                                  it is the lowest that supplies
 --     sender-unstarted, sender-starts, sender-present  the trail stops exactly where a route starts, and there is one all along
@@ -13,21 +13,18 @@
 --     shown-distinct, shown-short                      as every trail is, also of a box that holds none
 --     nowhere                                          nothing comes from nothing
 use mathlib.Core.Path.{_≡_, refl, sym, ap, ap₂, _∙_, subst}
-use mathlib.Core.Bool.{Bool, true, false, cond, not, _&&_, true≢false, false≢true}
+use mathlib.Core.Bool.{Bool, true, false, cond, true≢false, false≢true}
 use mathlib.Core.List.{List, [], _∷_}
 use mathlib.Core.Logic.{⊎-elim}
 use mathlib.Core.Option.{Option, none, some}
 use Prim.Native.Nat.{ℕ, zero, suc, _≤_, _<_}
 use native.Mathlib.Omega.{arith}
-use lib.Dec.{leb}
 use lib.ListN.{length}
-use borrow.Author.Tests.{leb-true, le-leb, lt-leb}
 use Rattle.lists.specs.All.{All, any, Distinct}
-use Rattle.lists.proofs.All.{all-map, all-of}
-use Rattle.lists.specs.Filter.{filter}
-use Rattle.lists.proofs.Filter.{any-mapped, firstThat-meets, length-filter, length-fewer}
+use Rattle.lists.proofs.All.{all-map}
+use Rattle.lists.proofs.Filter.{any-mapped, firstThat-meets}
 use Rattle.lists.proofs.Sorted.{find-key, find-all, firstThat-lowest}
-use Rattle.lists.proofs.Test.{and-i, yes-or-no, le-or-lt}
+use Rattle.lists.proofs.Test.{yes-or-no, le-or-lt}
 use Rattle.networks.specs.Algebra.{Algebra, Choice, Costs}
 use Rattle.networks.specs.Network.{Own, Input, Box, own, input, Wire, NetworkOver, boxId, isBox, isOwnBox, ownBoxes, inputs, box, hasBox, owns, wiresInto}
 use Rattle.networks.specs.Paper.{edge}
@@ -35,7 +32,8 @@ use Rattle.networks.specs.Solution.{trans, offers, due, Solution}
 use Rattle.networks.specs.Sound.{Bounds, Joined, Sound}
 use Rattle.networks.specs.Trail.{StartedBy, Starts, Supplies, Trail, gives, supplier, stops, sender, behind, trailBehind}
 use Rattle.networks.proofs.BestRoute.{due-offered}
-use Rattle.networks.proofs.Laws.Boxes.{own-found, input-found, own-there, own-box, own-any}
+use Rattle.networks.proofs.Laws.Boxes.{own-found, input-found, own-there, own-box}
+use Rattle.networks.proofs.Laws.Ranks.{rank, rank-within, rank-falls}
 use Rattle.networks.proofs.Laws.Senders.{goes-on, supplier-wire, supplier-none, behind-end, behind-next, trail-end}
 use Rattle.networks.proofs.Laws.Silence.{bestOf-none, trans-none}
 use Rattle.networks.proofs.Laws.Solutions.{holds-due, holds-assumed}
@@ -100,25 +98,8 @@ module _ (𝓐 : Algebra) {B : Bounds} {N : NetworkOver 𝓐} (sound : Sound B N
     supplies-falls i j s present = subst (λ (r : Route). costs .cost (ℒ j) < costs .cost r) (s .2)
         (trans-dearer 𝓐 costs N lawful (s .0) (ℒ j) (λ z. present (sym (s .2) ∙ z)))
 
-    -- how many own boxes hold a route that costs no more than that of box i
-    abbrev rank : ℕ → ℕ
-    rank i = length (filter (λ (b : Own Route Demand). leb (costs .cost (ℒ (b .id))) (costs .cost (ℒ i))) (ownBoxes N))
-
-    rank-within : (i : ℕ) → rank i ≤ length (ownBoxes N)
-    rank-within i = length-filter (λ (b : Own Route Demand). leb (costs .cost (ℒ (b .id))) (costs .cost (ℒ i))) (ownBoxes N)
-
-    -- a box is one of those that cost no more than it does, and none of those that cost no more than a cheaper one does
-    rank-falls : (i j : ℕ) → owns N i ≡ true → costs .cost (ℒ j) < costs .cost (ℒ i) → rank j < rank i
-    rank-falls i j t l = length-fewer (λ (b : Own Route Demand). leb (costs .cost (ℒ (b .id))) (costs .cost (ℒ j)))
-        (λ (b : Own Route Demand). leb (costs .cost (ℒ (b .id))) (costs .cost (ℒ i))) (ownBoxes N)
-        (all-of (ownBoxes N) (λ b e. le-leb (costs .cost (ℒ (b .id))) (costs .cost (ℒ i))
-        (let k = leb-true (costs .cost (ℒ (b .id))) (costs .cost (ℒ j)) e in omega arith)))
-        (own-any N (λ (k : ℕ). leb (costs .cost (ℒ k)) (costs .cost (ℒ i)) && not (leb (costs .cost (ℒ k)) (costs .cost (ℒ j)))) i t
-        (and-i (leb (costs .cost (ℒ i)) (costs .cost (ℒ i))) (not (leb (costs .cost (ℒ i)) (costs .cost (ℒ j))))
-        (le-leb (costs .cost (ℒ i)) (costs .cost (ℒ i)) (omega arith)) (ap not (lt-leb (costs .cost (ℒ i)) (costs .cost (ℒ j)) l))))
-
     module _ (choice : Choice 𝓐) where
-      -- and is one: a wire makes nothing out of no route
+      -- who supplies a route holds one: a wire makes nothing out of no route
       supplies-present : (i j : ℕ) → Supplies 𝓐 N ℒ j i → (ℒ i ≡ noRoute → ⊥) → ℒ j ≡ noRoute → ⊥
       supplies-present i j s present z = present (sym (s .2) ∙ ap (trans 𝓐 N (s .0)) z ∙ trans-none 𝓐 choice N (s .0))
 
@@ -136,15 +117,15 @@ module _ (𝓐 : Algebra) {B : Bounds} {N : NetworkOver 𝓐} (sound : Sound B N
         trail-distinct j js (supplies-present i j (t .0) present) (t .1),
       )
 
-      trail-rank : (i : ℕ) (js : List ℕ) → (ℒ i ≡ noRoute → ⊥) → Trail 𝓐 N ℒ i js → length js ≤ rank i
+      trail-rank : (i : ℕ) (js : List ℕ) → (ℒ i ≡ noRoute → ⊥) → Trail 𝓐 N ℒ i js → length js ≤ rank 𝓐 N ℒ costs i
       trail-rank i [] present t = omega arith
       trail-rank i (j ∷ js) present t =
-          let l = rank-falls i j (supplied-own i j (t .0)) (supplies-falls i j (t .0) present) in
+          let l = rank-falls 𝓐 N ℒ costs i j (supplied-own i j (t .0)) (supplies-falls i j (t .0) present) in
           let m = trail-rank j js (supplies-present i j (t .0) present) (t .1) in
           omega arith
 
       pub trail-short : (i : ℕ) (js : List ℕ) → (ℒ i ≡ noRoute → ⊥) → Trail 𝓐 N ℒ i js → length js ≤ length (ownBoxes N)
-      trail-short i js present t = let l = trail-rank i js present t in let m = rank-within i in omega arith
+      trail-short i js present t = let l = trail-rank i js present t in let m = rank-within 𝓐 N ℒ costs i in omega arith
 
   module _ (choice : Choice 𝓐) (solved : Solution 𝓐 N ℒ) where
     -- no route is due only where none starts, and there the trail stops
@@ -201,9 +182,8 @@ module _ {𝓐 : Algebra} {B : Bounds} {N : NetworkOver 𝓐} {ℒ : ℕ → �
   abbrev cost : ℕ → ℕ
   cost i = s .costs .cost (ℒ i)
 
-  -- the rank of a box by these costs
   abbrev rankOf : ℕ → ℕ
-  rankOf = rank 𝓐 (s .sound) ℒ (s .costs) (s .lawful)
+  rankOf = rank 𝓐 N ℒ (s .costs)
 
   supplied : (i j : ℕ) → sender 𝓐 N ℒ i ≡ some j → Supplies 𝓐 N ℒ j i
   supplied = sender-supplies 𝓐 (s .sound) ℒ
@@ -227,9 +207,9 @@ module _ {𝓐 : Algebra} {B : Bounds} {N : NetworkOver 𝓐} {ℒ : ℕ → �
           go (some m) q r = on k m q (r m (let f = sender-falls k m q in omega arith))
 
   sender-rank : (i j : ℕ) → sender 𝓐 N ℒ i ≡ some j → rankOf j < rankOf i
-  sender-rank i j e = rank-falls 𝓐 (s .sound) ℒ (s .costs) (s .lawful) i j (supplied-own 𝓐 (s .sound) ℒ i j (supplied i j e)) (sender-falls i j e)
+  sender-rank i j e = rank-falls 𝓐 N ℒ (s .costs) i j (supplied-own 𝓐 (s .sound) ℒ i j (supplied i j e)) (sender-falls i j e)
 
-  -- where the rankOf is not over the number of wires, one wire more changes nothing
+  -- where the rank is not over the number of wires, one wire more changes nothing
   behind-more : (i n : ℕ) → rankOf i ≤ n → behind 𝓐 N ℒ (suc n) i ≡ behind 𝓐 N ℒ n i
   behind-more = along (λ (i : ℕ). (n : ℕ) → rankOf i ≤ n → behind 𝓐 N ℒ (suc n) i ≡ behind 𝓐 N ℒ n i)
       (λ i q n l. behind-end 𝓐 N ℒ (suc n) i q ∙ sym (behind-end 𝓐 N ℒ n i q)) on
@@ -246,7 +226,7 @@ module _ {𝓐 : Algebra} {B : Bounds} {N : NetworkOver 𝓐} {ℒ : ℕ → �
 
   pub trail-next : (i j : ℕ) → sender 𝓐 N ℒ i ≡ some j → trailBehind 𝓐 N ℒ i ≡ j ∷ trailBehind 𝓐 N ℒ j
   unfolding trailBehind
-  trail-next i j e = enough (length (ownBoxes N)) i j e (rank-within 𝓐 (s .sound) ℒ (s .costs) (s .lawful) i)
+  trail-next i j e = enough (length (ownBoxes N)) i j e (rank-within 𝓐 N ℒ (s .costs) i)
 
   pub none-alone : (i : ℕ) → ℒ i ≡ noRoute → trailBehind 𝓐 N ℒ i ≡ []
   none-alone i absent = go (sender 𝓐 N ℒ i) refl
