@@ -2,7 +2,7 @@
 --     census-fits, census-read     the longest census's room is enough for every one
 --     census-start                 what is behind an input that is over the bound does not show
 use mathlib.Core.Path.{_≡_, refl}
-use mathlib.Core.List.{List, [], _∷_, _++_, map}
+use mathlib.Core.List.{List, [], _∷_, _++_}
 use Prim.Native.Nat.{ℕ, _+_, _-_, _*_, _≤_, _<_}
 use native.Mathlib.Omega.{arith}
 use lib.ListN.{length, take, drop, length-append, length-map}
@@ -10,26 +10,24 @@ use Rattle.lists.specs.Answer.{Answer, given, refused}
 use Rattle.lists.specs.Filter.{filter}
 use Rattle.lists.specs.Laid.{placed}
 use Rattle.lists.specs.Rows.{laidRows}
-use Rattle.lists.proofs.Filter.{length-filter, length-filterMap}
-use Rattle.lists.proofs.Rows.{length-rows}
+use Rattle.lists.proofs.Filter.{length-filter}
 use Rattle.numbers.specs.Decimal.{decimal}
 use Rattle.numbers.proofs.DecimalLaws.{decimal-short}
 use Rattle.routes.specs.Carry.{highest}
 use Rattle.routes.specs.declared.Demand.{Demand}
 use Rattle.routes.specs.declared.Route.{Route}
 use Rattle.networks.specs.Judge.{Verdict, pass, found}
-use Rattle.networks.specs.Network.{Own, asOwn, ownBoxes}
+use Rattle.networks.specs.Network.{Own, ownBoxes}
 use Rattle.networks.specs.Silence.{Census, census, overlooked}
-use Rattle.layout.specs.Form.{nodeWidth, formOf}
-use Rattle.layout.specs.Layout.{nodeCount, nodePart}
+use Rattle.layout.specs.Form.{formOf}
 use Rattle.layout.proofs.OneForm.{form-usable}
 use Rattle.records.specs.Network.{SoundRecord}
 use Rattle.records.proofs.Fine.{network-fine}
 use Rattle.reading.specs.Asking.{houseAsking}
 use Rattle.reading.specs.House.{house}
-use Rattle.reading.specs.Parts.{boxAt}
-use Rattle.reading.specs.Whole.{readNetwork, networkOf, listOf}
-use Rattle.lines.specs.Line.{text, line, longestLine}
+use Rattle.reading.specs.Whole.{networkOf, listOf}
+use Rattle.reading.proofs.Lengths.{own-few}
+use Rattle.lines.specs.Line.{text, line}
 use Rattle.lines.specs.Split.{firstRecord, restOf}
 use Rattle.lines.proofs.Answers.{bound-short, answer-read}
 use Rattle.lines.proofs.Lengths.{line-short, pass-length, refused-length, found-length}
@@ -77,14 +75,10 @@ lines-short c few =
 
 -- a sound record has no more own boxes than a table has rows
 named-few : (network list : List ℕ) → SoundRecord network → length (censusOf network list .silent) ≤ 1024
-unfolding census readNetwork
+unfolding census
 named-few network list sound =
-    let f = formOf network in
     let N = networkOf network in
-    let few = network-fine network sound .few-nodes in
-    let most = form-usable network .few in
-    let rows = length-rows (boxAt (f .route) network) (nodeWidth f) (nodePart network) (nodeCount network) in
-    let ours = length-filterMap asOwn (N .boxes) in
+    let ours = own-few (formOf network) network (network-fine network sound .few-nodes) (form-usable network .few) in
     let named = length-filter (overlooked (house highest) houseAsking (listOf list)) (ownBoxes N) in
     omega (arith, length-map (filter (overlooked (house highest) houseAsking (listOf list)) (ownBoxes N)) (λ (b : Own Route Demand). b .id))
 

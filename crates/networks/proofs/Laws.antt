@@ -9,7 +9,7 @@
 --     Solutions                   solutions in a network and in its fragments
 --     Judging, Agreeing           the judge's answers; two lists that agree
 --     Silence                     a list that holds no route anywhere
---     Senders                     the box that a trail goes back to, and those behind it
+--     Senders, Ranks              the box that a trail goes back to, and those behind it; how many cost no more than a box
 --     Mapping, Whole              what a list maps a fragment's boxes to; fragments and whole
 --     Points, Together            the paper's definition of a fragment, id by id; the fragments of one cut together
 pub mod Counts
@@ -31,6 +31,7 @@ pub mod Judging
 pub mod Agreeing
 pub mod Silence
 pub mod Senders
+pub mod Ranks
 pub mod Mapping
 pub mod Whole
 pub mod Points

@@ -1,31 +1,30 @@
 -- Every route has a trail back to where it started. A due route is the box's own initial one, or a wire supplies it. What a wire supplies costs
--- more than the sender's route, so that going back ends. The own boxes whose routes cost no more than a box's are fewer at each step back, since
--- the box that was left is one of them and is none of those that cost no more than its sender's: so a trail has no more wires than own boxes.
+-- more than the sender's route, so that going back ends. The own boxes whose routes cost no more than a box's are fewer at each step back
+-- (Laws/Ranks.antt): so a trail has no more wires than own boxes.
 --     sender-supplies, sender-there                    the box that the trail goes back to
---     lowest-sender, lowest-supplier                   it is the lowest that supplies
+--     lowest-supplier                                  it is the lowest that supplies
 --     sender-unstarted, sender-starts, sender-present  the trail stops exactly where a route starts, and there is one all along
---     supplies-falls, sender-falls, along              costs fall, and what is handed on from the sender holds of every box
---     trail-end, trail-next, none-alone                the trail that is shown, box by box
---     box-trail, shown-trail, trail-exists             it is a trail
---     trail-falls, trail-distinct, trail-short         every trail: no box twice, and no more wires than own boxes
---     shown-distinct, shown-short                      so the one that is shown, also of a box that holds none
+--     supplies-falls                                   costs fall
+--     trail-falls, trail-distinct, trail-short         every trail: no box twice, and no more wires than own boxes, under any mapping
+--     Settled                                          what the trail that is shown rests on
+--     sender-falls, along                              what is handed on from the sender holds of every box
+--     trail-next, none-alone                           the trail that is shown, box by box (trail-end: Laws/Senders.antt)
+--     shown-trail, trail-exists                        it is a trail
+--     shown-distinct, shown-short                      as every trail is, also of a box that holds none
 --     nowhere                                          nothing comes from nothing
 use mathlib.Core.Path.{_≡_, refl, sym, ap, ap₂, _∙_, subst}
-use mathlib.Core.Bool.{Bool, true, false, cond, not, _&&_, true≢false, false≢true}
+use mathlib.Core.Bool.{Bool, true, false, cond, true≢false, false≢true}
 use mathlib.Core.List.{List, [], _∷_}
 use mathlib.Core.Logic.{⊎-elim}
-use mathlib.Core.Option.{Option, none, some, Option·map, Option·getD}
+use mathlib.Core.Option.{Option, none, some}
 use Prim.Native.Nat.{ℕ, zero, suc, _≤_, _<_}
 use native.Mathlib.Omega.{arith}
-use lib.Dec.{leb}
-use lib.ListN.{length, getElem?}
-use borrow.Author.Tests.{leb-true, le-leb, lt-leb}
+use lib.ListN.{length}
 use Rattle.lists.specs.All.{All, any, Distinct}
-use Rattle.lists.proofs.All.{all-map, all-of, all-at}
-use Rattle.lists.specs.Filter.{filter}
-use Rattle.lists.proofs.Filter.{any-mapped, firstThat-meets, length-filter, length-fewer}
+use Rattle.lists.proofs.All.{all-map}
+use Rattle.lists.proofs.Filter.{any-mapped, firstThat-meets}
 use Rattle.lists.proofs.Sorted.{find-key, find-all, firstThat-lowest}
-use Rattle.lists.proofs.Test.{and-i, yes-or-no, le-or-lt}
+use Rattle.lists.proofs.Test.{yes-or-no, le-or-lt}
 use Rattle.networks.specs.Algebra.{Algebra, Choice, Costs}
 use Rattle.networks.specs.Network.{Own, Input, Box, own, input, Wire, NetworkOver, boxId, isBox, isOwnBox, ownBoxes, inputs, box, hasBox, owns, wiresInto}
 use Rattle.networks.specs.Paper.{edge}
@@ -33,14 +32,15 @@ use Rattle.networks.specs.Solution.{trans, offers, due, Solution}
 use Rattle.networks.specs.Sound.{Bounds, Joined, Sound}
 use Rattle.networks.specs.Trail.{StartedBy, Starts, Supplies, Trail, gives, supplier, stops, sender, behind, trailBehind}
 use Rattle.networks.proofs.BestRoute.{due-offered}
-use Rattle.networks.proofs.Laws.Boxes.{own-found, input-found, own-there, own-box, own-any}
-use Rattle.networks.proofs.Laws.Senders.{goes-on, supplier-wire, supplier-none, behind-end, behind-next}
+use Rattle.networks.proofs.Laws.Boxes.{own-found, input-found, own-there, own-box}
+use Rattle.networks.proofs.Laws.Ranks.{rank, rank-within, rank-falls}
+use Rattle.networks.proofs.Laws.Senders.{goes-on, supplier-wire, supplier-none, behind-end, behind-next, trail-end}
 use Rattle.networks.proofs.Laws.Silence.{bestOf-none, trans-none}
 use Rattle.networks.proofs.Laws.Solutions.{holds-due, holds-assumed}
-use Rattle.networks.proofs.Laws.Wires.{into-rise, into-all, edge-wire, edge-ends}
+use Rattle.networks.proofs.Laws.Wires.{into-rise, into-all, edge-wire, edge-ends, trans-dearer}
 
-module _ (𝓐 : Algebra) (B : Bounds) (N : NetworkOver 𝓐) (sound : Sound B N) (ℒ : ℕ → 𝓐 .Route) where
-  open Algebra 𝓐 using (Route, Policy, Demand, noRoute, same, carry, same-true, same-self)
+module _ (𝓐 : Algebra) {B : Bounds} {N : NetworkOver 𝓐} (sound : Sound B N) (ℒ : ℕ → 𝓐 .Route) where
+  open Algebra 𝓐 using (Route, Demand, noRoute, same, same-true, same-self)
 
   pub sender-supplies : (i j : ℕ) → sender 𝓐 N ℒ i ≡ some j → Supplies 𝓐 N ℒ j i
   sender-supplies i j e =
@@ -65,7 +65,7 @@ module _ (𝓐 : Algebra) (B : Bounds) (N : NetworkOver 𝓐) (sound : Sound B N
       ap (hasBox N) (sym (f .1)) ∙ f .0 .from-there
 
   -- no sender with a lower id gives the box what it holds
-  pub lowest-sender : (i j : ℕ) → sender 𝓐 N ℒ i ≡ some j → All (λ (w : Wire). w .from < j → gives 𝓐 N ℒ (ℒ i) w ≡ false) (wiresInto N i)
+  lowest-sender : (i j : ℕ) → sender 𝓐 N ℒ i ≡ some j → All (λ (w : Wire). w .from < j → gives 𝓐 N ℒ (ℒ i) w ≡ false) (wiresInto N i)
   lowest-sender i j e =
       let s = supplier-wire 𝓐 N ℒ i j (goes-on 𝓐 N ℒ i j e .1) in
       subst (λ (k : ℕ). All (λ (w : Wire). w .from < k → gives 𝓐 N ℒ (ℒ i) w ≡ false) (wiresInto N i)) (s .2)
@@ -92,9 +92,44 @@ module _ (𝓐 : Algebra) (B : Bounds) (N : NetworkOver 𝓐) (sound : Sound B N
       go (some (input a)) t z = true≢false t
       go (some (own b)) t z = false≢true (sym t ∙ ap (same (ℒ i)) (sym z) ∙ same-self (ℒ i))
 
+  module _ (costs : Costs 𝓐) (lawful : All (costs .Lawful) (N .policies)) where
+    -- a sender's route costs less than what it supplies
+    supplies-falls : (i j : ℕ) → Supplies 𝓐 N ℒ j i → (ℒ i ≡ noRoute → ⊥) → costs .cost (ℒ j) < costs .cost (ℒ i)
+    supplies-falls i j s present = subst (λ (r : Route). costs .cost (ℒ j) < costs .cost r) (s .2)
+        (trans-dearer 𝓐 costs N lawful (s .0) (ℒ j) (λ z. present (sym (s .2) ∙ z)))
+
+    module _ (choice : Choice 𝓐) where
+      -- who supplies a route holds one: a wire makes nothing out of no route
+      supplies-present : (i j : ℕ) → Supplies 𝓐 N ℒ j i → (ℒ i ≡ noRoute → ⊥) → ℒ j ≡ noRoute → ⊥
+      supplies-present i j s present z = present (sym (s .2) ∙ ap (trans 𝓐 N (s .0)) z ∙ trans-none 𝓐 choice N (s .0))
+
+      -- every trail of a box that holds a route
+      trail-falls : (i : ℕ) (js : List ℕ) → (ℒ i ≡ noRoute → ⊥) → Trail 𝓐 N ℒ i js → All (λ (j : ℕ). costs .cost (ℒ j) < costs .cost (ℒ i)) js
+      trail-falls i [] present t = tt
+      trail-falls i (j ∷ js) present t =
+          let l : costs .cost (ℒ j) < costs .cost (ℒ i) = supplies-falls i j (t .0) present in
+          (l, all-map js (λ k m. omega arith) (trail-falls j js (supplies-present i j (t .0) present) (t .1)))
+
+      pub trail-distinct : (i : ℕ) (js : List ℕ) → (ℒ i ≡ noRoute → ⊥) → Trail 𝓐 N ℒ i js → Distinct (i ∷ js)
+      trail-distinct i [] present t = (tt, tt)
+      trail-distinct i (j ∷ js) present t = (
+        all-map (j ∷ js) (λ k l q. let e = ap (λ (m : ℕ). costs .cost (ℒ m)) q in omega arith) (trail-falls i (j ∷ js) present t),
+        trail-distinct j js (supplies-present i j (t .0) present) (t .1),
+      )
+
+      trail-rank : (i : ℕ) (js : List ℕ) → (ℒ i ≡ noRoute → ⊥) → Trail 𝓐 N ℒ i js → length js ≤ rank 𝓐 N ℒ costs i
+      trail-rank i [] present t = omega arith
+      trail-rank i (j ∷ js) present t =
+          let l = rank-falls 𝓐 N ℒ costs i j (supplied-own i j (t .0)) (supplies-falls i j (t .0) present) in
+          let m = trail-rank j js (supplies-present i j (t .0) present) (t .1) in
+          omega arith
+
+      pub trail-short : (i : ℕ) (js : List ℕ) → (ℒ i ≡ noRoute → ⊥) → Trail 𝓐 N ℒ i js → length js ≤ length (ownBoxes N)
+      trail-short i js present t = let l = trail-rank i js present t in let m = rank-within 𝓐 N ℒ costs i in omega arith
+
   module _ (choice : Choice 𝓐) (solved : Solution 𝓐 N ℒ) where
     -- no route is due only where none starts, and there the trail stops
-    pub sender-present : (i j : ℕ) → sender 𝓐 N ℒ i ≡ some j → ℒ i ≡ noRoute → ⊥
+    sender-present : (i j : ℕ) → sender 𝓐 N ℒ i ≡ some j → ℒ i ≡ noRoute → ⊥
     unfolding due
     sender-present i j e absent = go (box N i) refl (goes-on 𝓐 N ℒ i j e .0)
       where
@@ -133,152 +168,115 @@ module _ (𝓐 : Algebra) (B : Bounds) (N : NetworkOver 𝓐) (sound : Sound B N
         go (some (input a)) q s z = holds-assumed 𝓐 N ℒ solved i a q
         go (some (own b)) q s z = initial b q (same (ℒ i) (b .initial)) refl z
 
-    module _ (costs : Costs 𝓐) (lawful : All (costs .Lawful) (N .policies)) where
-      -- a sender's route costs less than what it supplies
-      pub supplies-falls : (i j : ℕ) → Supplies 𝓐 N ℒ j i → (ℒ i ≡ noRoute → ⊥) → costs .cost (ℒ j) < costs .cost (ℒ i)
-      supplies-falls i j s present = go (getElem? (N .policies) (s .0 .policy)) refl (s .2)
+-- a sound network whose policies are lawful, under a mapping that solves its equations
+pub record Settled (𝓐 : Algebra) (B : Bounds) (N : NetworkOver 𝓐) (ℒ : ℕ → 𝓐 .Route) : Type 1 where
+  pub sound : Sound B N
+  pub choice : Choice 𝓐
+  pub solved : Solution 𝓐 N ℒ
+  pub costs : Costs 𝓐
+  pub lawful : All (costs .Lawful) (N .policies)
+
+module _ {𝓐 : Algebra} {B : Bounds} {N : NetworkOver 𝓐} {ℒ : ℕ → 𝓐 .Route} (s : Settled 𝓐 B N ℒ) where
+  open Algebra 𝓐 using (Route, Demand, noRoute, same, same-true, same-self)
+
+  abbrev cost : ℕ → ℕ
+  cost i = s .costs .cost (ℒ i)
+
+  abbrev rankOf : ℕ → ℕ
+  rankOf = rank 𝓐 N ℒ (s .costs)
+
+  supplied : (i j : ℕ) → sender 𝓐 N ℒ i ≡ some j → Supplies 𝓐 N ℒ j i
+  supplied = sender-supplies 𝓐 (s .sound) ℒ
+
+  present-at : (i j : ℕ) → sender 𝓐 N ℒ i ≡ some j → ℒ i ≡ noRoute → ⊥
+  present-at = sender-present 𝓐 (s .sound) ℒ (s .choice) (s .solved)
+
+  pub sender-falls : (i j : ℕ) → sender 𝓐 N ℒ i ≡ some j → cost j < cost i
+  sender-falls i j e = supplies-falls 𝓐 (s .sound) ℒ (s .costs) (s .lawful) i j (supplied i j e) (present-at i j e)
+
+  -- what holds where the trail stops, and of a box where it holds of the one that the trail goes back to, holds of every box
+  pub along : (P : ℕ → Type 0) → ((i : ℕ) → sender 𝓐 N ℒ i ≡ none → P i) → ((i j : ℕ) → sender 𝓐 N ℒ i ≡ some j → P j → P i) → (i : ℕ) → P i
+  along P stop on i = below (suc (cost i)) i (omega arith)
+    where
+      below : (n k : ℕ) → cost k < n → P k
+      below zero k l = absurd (omega arith)
+      below (suc n) k l = go (sender 𝓐 N ℒ k) refl (below n)
         where
-          go : (o : Option Policy) → getElem? (N .policies) (s .0 .policy) ≡ o
-              → Option·getD (Option·map (λ (p : Policy). carry p (ℒ j)) o) noRoute ≡ ℒ i → costs .cost (ℒ j) < costs .cost (ℒ i)
-          go none q e = absurd (present (sym e))
-          go (some p) q e = subst (λ (r : Route). costs .cost (ℒ j) < costs .cost r) e
-              (costs .dearer p (ℒ j) (all-at (costs .Lawful) (N .policies) (s .0 .policy) p lawful q) (λ z. present (sym e ∙ z)))
+          go : (o : Option ℕ) → sender 𝓐 N ℒ k ≡ o → ((m : ℕ) → cost m < n → P m) → P k
+          go none q r = stop k q
+          go (some m) q r = on k m q (r m (let f = sender-falls k m q in omega arith))
 
-      -- and is one: a wire makes nothing out of no route
-      supplies-present : (i j : ℕ) → Supplies 𝓐 N ℒ j i → (ℒ i ≡ noRoute → ⊥) → ℒ j ≡ noRoute → ⊥
-      supplies-present i j s present z = present (sym (s .2) ∙ ap (trans 𝓐 N (s .0)) z ∙ trans-none 𝓐 choice N (s .0))
+  sender-rank : (i j : ℕ) → sender 𝓐 N ℒ i ≡ some j → rankOf j < rankOf i
+  sender-rank i j e = rank-falls 𝓐 N ℒ (s .costs) i j (supplied-own 𝓐 (s .sound) ℒ i j (supplied i j e)) (sender-falls i j e)
 
-      pub sender-falls : (i j : ℕ) → sender 𝓐 N ℒ i ≡ some j → costs .cost (ℒ j) < costs .cost (ℒ i)
-      sender-falls i j e = supplies-falls i j (sender-supplies i j e) (sender-present i j e)
+  -- where the rank is not over the number of wires, one wire more changes nothing
+  behind-more : (i n : ℕ) → rankOf i ≤ n → behind 𝓐 N ℒ (suc n) i ≡ behind 𝓐 N ℒ n i
+  behind-more = along (λ (i : ℕ). (n : ℕ) → rankOf i ≤ n → behind 𝓐 N ℒ (suc n) i ≡ behind 𝓐 N ℒ n i)
+      (λ i q n l. behind-end 𝓐 N ℒ (suc n) i q ∙ sym (behind-end 𝓐 N ℒ n i q)) on
+    where
+      on : (i j : ℕ) → sender 𝓐 N ℒ i ≡ some j → ((n : ℕ) → rankOf j ≤ n → behind 𝓐 N ℒ (suc n) j ≡ behind 𝓐 N ℒ n j)
+          → (n : ℕ) → rankOf i ≤ n → behind 𝓐 N ℒ (suc n) i ≡ behind 𝓐 N ℒ n i
+      on i j q r zero l = absurd (let k = sender-rank i j q in omega arith)
+      on i j q r (suc n) l = behind-next 𝓐 N ℒ (suc n) i j q ∙ ap (_∷_ j) (r n (let k = sender-rank i j q in omega arith))
+          ∙ sym (behind-next 𝓐 N ℒ n i j q)
 
-      -- what holds where the trail stops, and of a box where it holds of the one that the trail goes back to, holds of every box
-      pub along : (P : ℕ → Type 0) → ((i : ℕ) → sender 𝓐 N ℒ i ≡ none → P i) → ((i j : ℕ) → sender 𝓐 N ℒ i ≡ some j → P j → P i) → (i : ℕ) → P i
-      along P stop on i = below (suc (costs .cost (ℒ i))) i (omega arith)
-        where
-          below : (n k : ℕ) → costs .cost (ℒ k) < n → P k
-          below zero k l = absurd (omega arith)
-          below (suc n) k l = go (sender 𝓐 N ℒ k) refl (below n)
-            where
-              go : (o : Option ℕ) → sender 𝓐 N ℒ k ≡ o → ((m : ℕ) → costs .cost (ℒ m) < n → P m) → P k
-              go none q r = stop k q
-              go (some m) q r = on k m q (r m (let f = sender-falls k m q in omega arith))
+  enough : (n i j : ℕ) → sender 𝓐 N ℒ i ≡ some j → rankOf i ≤ n → behind 𝓐 N ℒ n i ≡ j ∷ behind 𝓐 N ℒ n j
+  enough zero i j q l = absurd (let k = sender-rank i j q in omega arith)
+  enough (suc n) i j q l = behind-next 𝓐 N ℒ n i j q ∙ ap (_∷_ j) (sym (behind-more j n (let k = sender-rank i j q in omega arith)))
 
-      -- how many own boxes hold a route that costs no more than that of box i
-      abbrev rank : ℕ → ℕ
-      rank i = length (filter (λ (b : Own Route Demand). leb (costs .cost (ℒ (b .id))) (costs .cost (ℒ i))) (ownBoxes N))
+  pub trail-next : (i j : ℕ) → sender 𝓐 N ℒ i ≡ some j → trailBehind 𝓐 N ℒ i ≡ j ∷ trailBehind 𝓐 N ℒ j
+  unfolding trailBehind
+  trail-next i j e = enough (length (ownBoxes N)) i j e (rank-within 𝓐 N ℒ (s .costs) i)
 
-      rank-within : (i : ℕ) → rank i ≤ length (ownBoxes N)
-      rank-within i = length-filter (λ (b : Own Route Demand). leb (costs .cost (ℒ (b .id))) (costs .cost (ℒ i))) (ownBoxes N)
+  pub none-alone : (i : ℕ) → ℒ i ≡ noRoute → trailBehind 𝓐 N ℒ i ≡ []
+  none-alone i absent = go (sender 𝓐 N ℒ i) refl
+    where
+      go : (o : Option ℕ) → sender 𝓐 N ℒ i ≡ o → trailBehind 𝓐 N ℒ i ≡ []
+      go none q = trail-end 𝓐 N ℒ i q
+      go (some j) q = absurd (present-at i j q absent)
 
-      -- a box is one of those that cost no more than it does, and none of those that cost no more than a cheaper one does
-      rank-falls : (i j : ℕ) → owns N i ≡ true → costs .cost (ℒ j) < costs .cost (ℒ i) → rank j < rank i
-      rank-falls i j t l = length-fewer (λ (b : Own Route Demand). leb (costs .cost (ℒ (b .id))) (costs .cost (ℒ j)))
-          (λ (b : Own Route Demand). leb (costs .cost (ℒ (b .id))) (costs .cost (ℒ i))) (ownBoxes N)
-          (all-of (ownBoxes N) (λ b e. le-leb (costs .cost (ℒ (b .id))) (costs .cost (ℒ i))
-          (let k = leb-true (costs .cost (ℒ (b .id))) (costs .cost (ℒ j)) e in omega arith)))
-          (own-any N (λ (k : ℕ). leb (costs .cost (ℒ k)) (costs .cost (ℒ i)) && not (leb (costs .cost (ℒ k)) (costs .cost (ℒ j)))) i t
-          (and-i (leb (costs .cost (ℒ i)) (costs .cost (ℒ i))) (not (leb (costs .cost (ℒ i)) (costs .cost (ℒ j))))
-          (le-leb (costs .cost (ℒ i)) (costs .cost (ℒ i)) (omega arith)) (ap not (lt-leb (costs .cost (ℒ i)) (costs .cost (ℒ j)) l))))
+  -- the trail that is shown is one
+  box-trail : (i : ℕ) → hasBox N i ≡ true → Trail 𝓐 N ℒ i (trailBehind 𝓐 N ℒ i)
+  box-trail = along (λ (i : ℕ). hasBox N i ≡ true → Trail 𝓐 N ℒ i (trailBehind 𝓐 N ℒ i))
+      (λ i q t. rw (trail-end 𝓐 N ℒ i q) (sender-starts 𝓐 (s .sound) ℒ (s .choice) (s .solved) i t q))
+      (λ i j q r t. rw (trail-next i j q) (supplied i j q, r (sender-there 𝓐 (s .sound) ℒ i j q)))
 
-      sender-rank : (i j : ℕ) → sender 𝓐 N ℒ i ≡ some j → rank j < rank i
-      sender-rank i j e = rank-falls i j (supplied-own i j (sender-supplies i j e)) (sender-falls i j e)
+  pub shown-trail : (i : ℕ) → owns N i ≡ true → Trail 𝓐 N ℒ i (trailBehind 𝓐 N ℒ i)
+  shown-trail i t = box-trail i (own-box N i t)
 
-      -- where the rank is not over the number of wires, one wire more changes nothing
-      behind-more : (i n : ℕ) → rank i ≤ n → behind 𝓐 N ℒ (suc n) i ≡ behind 𝓐 N ℒ n i
-      behind-more = along (λ (i : ℕ). (n : ℕ) → rank i ≤ n → behind 𝓐 N ℒ (suc n) i ≡ behind 𝓐 N ℒ n i)
-          (λ i q n l. behind-end 𝓐 N ℒ (suc n) i q ∙ sym (behind-end 𝓐 N ℒ n i q)) on
-        where
-          on : (i j : ℕ) → sender 𝓐 N ℒ i ≡ some j → ((n : ℕ) → rank j ≤ n → behind 𝓐 N ℒ (suc n) j ≡ behind 𝓐 N ℒ n j)
-              → (n : ℕ) → rank i ≤ n → behind 𝓐 N ℒ (suc n) i ≡ behind 𝓐 N ℒ n i
-          on i j q r zero l = absurd (let k = sender-rank i j q in omega arith)
-          on i j q r (suc n) l = behind-next 𝓐 N ℒ (suc n) i j q ∙ ap (_∷_ j) (r n (let k = sender-rank i j q in omega arith))
-              ∙ sym (behind-next 𝓐 N ℒ n i j q)
+  pub trail-exists : (i : ℕ) → owns N i ≡ true → (js : List ℕ) × Trail 𝓐 N ℒ i js
+  trail-exists i t = (trailBehind 𝓐 N ℒ i, shown-trail i t)
 
-      enough : (n i j : ℕ) → sender 𝓐 N ℒ i ≡ some j → rank i ≤ n → behind 𝓐 N ℒ n i ≡ j ∷ behind 𝓐 N ℒ n j
-      enough zero i j q l = absurd (let k = sender-rank i j q in omega arith)
-      enough (suc n) i j q l = behind-next 𝓐 N ℒ n i j q ∙ ap (_∷_ j) (sym (behind-more j n (let k = sender-rank i j q in omega arith)))
+  -- a box holds none, and its trail is itself alone, or holds a route
+  alone-or : (P : List ℕ → Type 0) (i : ℕ) → P [] → ((ℒ i ≡ noRoute → ⊥) → P (trailBehind 𝓐 N ℒ i)) → P (trailBehind 𝓐 N ℒ i)
+  alone-or P i alone held = ⊎-elim (λ (e : same (ℒ i) noRoute ≡ true). rw (none-alone i (same-true (ℒ i) noRoute e)) alone)
+      (λ (e : same (ℒ i) noRoute ≡ false). held (λ z. true≢false (sym (ap (λ (r : Route). same r noRoute) z ∙ same-self noRoute) ∙ e)))
+      (yes-or-no (same (ℒ i) noRoute))
 
-      pub trail-end : (i : ℕ) → sender 𝓐 N ℒ i ≡ none → trailBehind 𝓐 N ℒ i ≡ []
-      unfolding trailBehind
-      trail-end i e = behind-end 𝓐 N ℒ (length (ownBoxes N)) i e
+  pub shown-distinct : (i : ℕ) → owns N i ≡ true → Distinct (i ∷ trailBehind 𝓐 N ℒ i)
+  shown-distinct i t = alone-or (λ (js : List ℕ). Distinct (i ∷ js)) i (tt, tt)
+      (λ present. trail-distinct 𝓐 (s .sound) ℒ (s .costs) (s .lawful) (s .choice) i (trailBehind 𝓐 N ℒ i) present (shown-trail i t))
 
-      pub trail-next : (i j : ℕ) → sender 𝓐 N ℒ i ≡ some j → trailBehind 𝓐 N ℒ i ≡ j ∷ trailBehind 𝓐 N ℒ j
-      unfolding trailBehind
-      trail-next i j e = enough (length (ownBoxes N)) i j e (rank-within i)
+  pub shown-short : (i : ℕ) → owns N i ≡ true → length (trailBehind 𝓐 N ℒ i) ≤ length (ownBoxes N)
+  shown-short i t = alone-or (λ (js : List ℕ). length js ≤ length (ownBoxes N)) i (omega arith)
+      (λ present. trail-short 𝓐 (s .sound) ℒ (s .costs) (s .lawful) (s .choice) i (trailBehind 𝓐 N ℒ i) present (shown-trail i t))
 
-      pub none-alone : (i : ℕ) → ℒ i ≡ noRoute → trailBehind 𝓐 N ℒ i ≡ []
-      none-alone i absent = go (sender 𝓐 N ℒ i) refl
-        where
-          go : (o : Option ℕ) → sender 𝓐 N ℒ i ≡ o → trailBehind 𝓐 N ℒ i ≡ []
-          go none q = trail-end i q
-          go (some j) q = absurd (sender-present i j q absent)
+  -- where no box starts with a route and none is assumed
+  module _ (starts : All (λ (b : Own Route Demand). b .initial ≡ noRoute) (ownBoxes N))
+      (assumed : All (λ (a : Input Route). a .assumed ≡ noRoute) (inputs N)) where
+    start-none : (i : ℕ) → Starts 𝓐 N ℒ i → ℒ i ≡ noRoute
+    start-none i t = go (box N i) refl t
+      where
+        go : (o : Option (Box Route Demand)) → box N i ≡ o → StartedBy 𝓐 N ℒ o (ℒ i) → ℒ i ≡ noRoute
+        go none q z = absurd z
+        go (some (own b)) q z = z ∙ own-found N (λ (c : Own Route Demand). c .initial ≡ noRoute) i b starts q
+        go (some (input a)) q z = z ∙ input-found N (λ (c : Input Route). c .assumed ≡ noRoute) i a assumed q
 
-      -- the trail that is shown is one
-      pub box-trail : (i : ℕ) → hasBox N i ≡ true → Trail 𝓐 N ℒ i (trailBehind 𝓐 N ℒ i)
-      box-trail = along (λ (i : ℕ). hasBox N i ≡ true → Trail 𝓐 N ℒ i (trailBehind 𝓐 N ℒ i))
-          (λ i q t. rw (trail-end i q) (sender-starts i t q))
-          (λ i j q r t. rw (trail-next i j q) (sender-supplies i j q, r (sender-there i j q)))
+    -- a trail's last box holds none, and so does every box before it
+    trail-none : (i : ℕ) (js : List ℕ) → Trail 𝓐 N ℒ i js → ℒ i ≡ noRoute
+    trail-none i [] t = start-none i t
+    trail-none i (j ∷ js) t = sym (t .0 .2) ∙ ap (trans 𝓐 N (t .0 .0)) (trail-none j js (t .1)) ∙ trans-none 𝓐 (s .choice) N (t .0 .0)
 
-      pub shown-trail : (i : ℕ) → owns N i ≡ true → Trail 𝓐 N ℒ i (trailBehind 𝓐 N ℒ i)
-      shown-trail i t = box-trail i (own-box N i t)
-
-      pub trail-exists : (i : ℕ) → owns N i ≡ true → (js : List ℕ) × Trail 𝓐 N ℒ i js
-      trail-exists i t = (trailBehind 𝓐 N ℒ i, shown-trail i t)
-
-      -- every trail of a box that holds a route
-      pub trail-falls : (i : ℕ) (js : List ℕ) → (ℒ i ≡ noRoute → ⊥) → Trail 𝓐 N ℒ i js → All (λ (j : ℕ). costs .cost (ℒ j) < costs .cost (ℒ i)) js
-      trail-falls i [] present t = tt
-      trail-falls i (j ∷ js) present t =
-          let l : costs .cost (ℒ j) < costs .cost (ℒ i) = supplies-falls i j (t .0) present in
-          (l, all-map js (λ k m. omega arith) (trail-falls j js (supplies-present i j (t .0) present) (t .1)))
-
-      pub trail-distinct : (i : ℕ) (js : List ℕ) → (ℒ i ≡ noRoute → ⊥) → Trail 𝓐 N ℒ i js → Distinct (i ∷ js)
-      trail-distinct i [] present t = (tt, tt)
-      trail-distinct i (j ∷ js) present t = (
-        all-map (j ∷ js) (λ k l q. let e = ap (λ (m : ℕ). costs .cost (ℒ m)) q in omega arith) (trail-falls i (j ∷ js) present t),
-        trail-distinct j js (supplies-present i j (t .0) present) (t .1),
-      )
-
-      trail-rank : (i : ℕ) (js : List ℕ) → (ℒ i ≡ noRoute → ⊥) → Trail 𝓐 N ℒ i js → length js ≤ rank i
-      trail-rank i [] present t = omega arith
-      trail-rank i (j ∷ js) present t =
-          let l = rank-falls i j (supplied-own i j (t .0)) (supplies-falls i j (t .0) present) in
-          let m = trail-rank j js (supplies-present i j (t .0) present) (t .1) in
-          omega arith
-
-      pub trail-short : (i : ℕ) (js : List ℕ) → (ℒ i ≡ noRoute → ⊥) → Trail 𝓐 N ℒ i js → length js ≤ length (ownBoxes N)
-      trail-short i js present t = let l = trail-rank i js present t in let m = rank-within i in omega arith
-
-      -- a box holds none, and its trail is itself alone, or holds a route
-      alone-or : (P : List ℕ → Type 0) (i : ℕ) → P [] → ((ℒ i ≡ noRoute → ⊥) → P (trailBehind 𝓐 N ℒ i)) → P (trailBehind 𝓐 N ℒ i)
-      alone-or P i alone held = ⊎-elim (λ (e : same (ℒ i) noRoute ≡ true). rw (none-alone i (same-true (ℒ i) noRoute e)) alone)
-          (λ (e : same (ℒ i) noRoute ≡ false). held (λ z. true≢false (sym (ap (λ (r : Route). same r noRoute) z ∙ same-self noRoute) ∙ e)))
-          (yes-or-no (same (ℒ i) noRoute))
-
-      pub shown-distinct : (i : ℕ) → owns N i ≡ true → Distinct (i ∷ trailBehind 𝓐 N ℒ i)
-      shown-distinct i t = alone-or (λ (js : List ℕ). Distinct (i ∷ js)) i (tt, tt)
-          (λ present. trail-distinct i (trailBehind 𝓐 N ℒ i) present (shown-trail i t))
-
-      pub shown-short : (i : ℕ) → owns N i ≡ true → length (trailBehind 𝓐 N ℒ i) ≤ length (ownBoxes N)
-      shown-short i t = alone-or (λ (js : List ℕ). length js ≤ length (ownBoxes N)) i (omega arith)
-          (λ present. trail-short i (trailBehind 𝓐 N ℒ i) present (shown-trail i t))
-
-      -- where no box starts with a route and none is assumed
-      module _ (starts : All (λ (b : Own Route Demand). b .initial ≡ noRoute) (ownBoxes N))
-          (assumed : All (λ (a : Input Route). a .assumed ≡ noRoute) (inputs N)) where
-        start-none : (i : ℕ) → Starts 𝓐 N ℒ i → ℒ i ≡ noRoute
-        start-none i s = go (box N i) refl s
-          where
-            go : (o : Option (Box Route Demand)) → box N i ≡ o → StartedBy 𝓐 N ℒ o (ℒ i) → ℒ i ≡ noRoute
-            go none q z = absurd z
-            go (some (own b)) q z = z ∙ own-found N (λ (c : Own Route Demand). c .initial ≡ noRoute) i b starts q
-            go (some (input a)) q z = z ∙ input-found N (λ (c : Input Route). c .assumed ≡ noRoute) i a assumed q
-
-        -- a trail's last box holds none, and so does every box before it
-        trail-none : (i : ℕ) (js : List ℕ) → Trail 𝓐 N ℒ i js → ℒ i ≡ noRoute
-        trail-none i [] t = start-none i t
-        trail-none i (j ∷ js) t = sym (t .0 .2) ∙ ap (trans 𝓐 N (t .0 .0)) (trail-none j js (t .1)) ∙ trans-none 𝓐 choice N (t .0 .0)
-
-        pub nowhere : All (λ (b : Own Route Demand). ℒ (b .id) ≡ noRoute) (ownBoxes N)
-        nowhere = all-map (ownBoxes N) (λ b e. trail-none (b .id) (trailBehind 𝓐 N ℒ (b .id)) (shown-trail (b .id) (ap isOwnBox e)))
-            (own-there N (sound .boxes-rise))
+    pub nowhere : All (λ (b : Own Route Demand). ℒ (b .id) ≡ noRoute) (ownBoxes N)
+    nowhere = all-map (ownBoxes N) (λ b e. trail-none (b .id) (trailBehind 𝓐 N ℒ (b .id)) (shown-trail (b .id) (ap isOwnBox e)))
+        (own-there N (s .sound .boxes-rise))

@@ -2,31 +2,32 @@
 -- adds, so that the theorems about networks hold of what two records say; what is shown of a box and printed of it is taken apart by the
 -- judge's answer.
 use mathlib.Core.Path.{_≡_, refl, sym, ap, ap₂, _∙_, subst}
-use mathlib.Core.Bool.{true, false≢true}
+use mathlib.Core.Bool.{true}
 use mathlib.Core.List.{List, [], _∷_, append-nil}
-use mathlib.Core.Option.{Option, none, some, Option·getD}
 use Prim.Native.Nat.{ℕ}
 use native.Mathlib.Omega.{arith}
 use Rattle.lists.proofs.All.{all-map, all-both}
-use Rattle.lists.specs.Answer.{given, isSome}
+use Rattle.lists.specs.Answer.{given}
 use Rattle.lists.specs.Bytes.{Bytes}
 use Rattle.lists.specs.Rows.{laidRows}
 use Rattle.lists.proofs.Rows.{laid-map}
 use Rattle.routes.specs.Carry.{highest}
+use Rattle.routes.specs.Order.{same}
 use Rattle.routes.specs.declared.Route.{Route}
 use Rattle.routes.specs.declared.Route.the-variants.{None}
-use Rattle.networks.specs.Lowest.{Entered}
+use Rattle.routes.proofs.Ordered.{same-refl}
 use Rattle.networks.specs.Network.{ownBoxes, hasBox, owns}
-use Rattle.networks.specs.Sheets.{ListEntry, listed}
-use Rattle.networks.specs.Solution.{Solution}
-use Rattle.networks.specs.Sound.{Sound}
-use Rattle.networks.specs.Trail.{trail, trailBehind, holding, showing}
+use Rattle.networks.specs.Sheets.{ListEntry}
+use Rattle.networks.specs.Silence.{Empty}
+use Rattle.networks.specs.Trail.{Trail, trail, trailBehind, holding, showing}
 use Rattle.networks.proofs.Laws.Boxes.{own-box}
 use Rattle.networks.proofs.Laws.Judging.{own-held}
+use Rattle.networks.proofs.Laws.Senders.{trail-end}
+use Rattle.networks.proofs.Silence as silence
 use Rattle.networks.proofs.Trails as trails
 use Rattle.layout.specs.Form.{formOf}
 use Rattle.records.specs.Network.{SoundRecord}
-use Rattle.reading.specs.Adding.{Adding}
+use Rattle.reading.specs.Asking.{houseAsking}
 use Rattle.reading.specs.Whole.{HouseNetwork, HouseList, bounds, networkOf, listOf}
 use Rattle.reading.proofs.Bridges.{read-network}
 use Rattle.reading.proofs.HouseRoutes.{house-choice, house-costs}
@@ -35,7 +36,8 @@ use Rattle.judging.specs.Text.{verdictLine}
 use Rattle.tracing.specs.Tracing.{showRecords}
 use Rattle.tracing.specs.Text.{trailLines, shownText, trailOutput}
 use Rattle.promises.specs.Calls.{house1, Passes}
-use Rattle.promises.specs.Trails.{holds, Back, Short, Followed, TrailExists, EveryTrail, TrailShown, OneFollowed, HoldsNone, ShownRefused, FromNowhere}
+use Rattle.promises.specs.Trails.{mappingOf, Simple, Followed, TrailExists, EveryTrail, TrailPrinted, OneFollowed, HoldsNone, NoTrail, FromNowhere}
+use Rattle.promises.proofs.Cuts.{passes-said}
 use Rattle.promises.proofs.Demand2.{passes-exactly}
 use Rattle.promises.proofs.Policies.{policies-add}
 
@@ -47,7 +49,7 @@ module _ (network list : List ℕ) where
   L = listOf list
 
   abbrev ℒ : ℕ → Route
-  ℒ = holds network list
+  ℒ = mappingOf network list
 
   -- the trail that is shown
   abbrev back : ℕ → List ℕ
@@ -57,44 +59,36 @@ module _ (network list : List ℕ) where
     sound-record : SoundRecord network
     sound-record = ((passes-exactly network list small) .0 passes) .0
 
-    sound : Sound (bounds (formOf network)) N
-    sound = (read-network network small sound-record) .0
+    abbrev settled : trails.Settled house1 (bounds (formOf network)) N ℒ
+    settled = record {
+      sound = (read-network network small sound-record) .0;
+      choice = house-choice highest;
+      solved = ((passes-exactly network list small) .0 passes) .3;
+      costs = house-costs highest;
+      lawful = policies-add network sound-record;
+    }
 
-    adds : Adding N
-    adds = policies-add network sound-record
-
-    entered : Entered N (listed L)
-    entered = ((passes-exactly network list small) .0 passes) .2
-
-    solved : Solution house1 N ℒ
-    solved = ((passes-exactly network list small) .0 passes) .3
-
-    short : (i : ℕ) (js : List ℕ) → (ℒ i ≡ None → ⊥) → Back network list i js → Short network list i js
-    short i js present t = (
-      trails.trail-distinct house1 (bounds (formOf network)) N sound ℒ (house-choice highest) solved (house-costs highest) adds i js present t,
-      trails.trail-short house1 (bounds (formOf network)) N sound ℒ (house-choice highest) solved (house-costs highest) adds i js present t,
+    simple : (i : ℕ) (js : List ℕ) → (ℒ i ≡ None → ⊥) → Trail house1 N ℒ i js → Simple network list i js
+    simple i js present t = (
+      trails.trail-distinct house1 (settled .sound) ℒ (settled .costs) (settled .lawful) (settled .choice) i js present t,
+      trails.trail-short house1 (settled .sound) ℒ (settled .costs) (settled .lawful) (settled .choice) i js present t,
     )
 
-    shown-back : (i : ℕ) → owns N i ≡ true → Back network list i (back i)
-    shown-back = trails.shown-trail house1 (bounds (formOf network)) N sound ℒ (house-choice highest) solved (house-costs highest) adds
+    shown-trail : (i : ℕ) → owns N i ≡ true → Trail house1 N ℒ i (back i)
+    shown-trail = trails.shown-trail settled
 
-    shown-short : (i : ℕ) → owns N i ≡ true → Short network list i (back i)
-    shown-short i t = (
-      trails.shown-distinct house1 (bounds (formOf network)) N sound ℒ (house-choice highest) solved (house-costs highest) adds i t,
-      trails.shown-short house1 (bounds (formOf network)) N sound ℒ (house-choice highest) solved (house-costs highest) adds i t,
-    )
+    shown-simple : (i : ℕ) → owns N i ≡ true → Simple network list i (back i)
+    shown-simple i t = (trails.shown-distinct settled i t, trails.shown-short settled i t)
 
     -- it goes on by the lowest sender until a box starts its route
     followed : (i : ℕ) → hasBox N i ≡ true → Followed network list i (back i)
-    followed = trails.along house1 (bounds (formOf network)) N sound ℒ (house-choice highest) solved (house-costs highest) adds
-        (λ (i : ℕ). hasBox N i ≡ true → Followed network list i (back i))
-        (λ i q t. rw (trails.trail-end house1 (bounds (formOf network)) N sound ℒ (house-choice highest) solved (house-costs highest) adds i q)
-        (trails.sender-starts house1 (bounds (formOf network)) N sound ℒ (house-choice highest) solved i t q))
-        (λ i j q r t. rw (trails.trail-next house1 (bounds (formOf network)) N sound ℒ (house-choice highest) solved (house-costs highest) adds i j q) (
-          trails.sender-unstarted house1 (bounds (formOf network)) N sound ℒ i j q,
-          trails.sender-supplies house1 (bounds (formOf network)) N sound ℒ i j q,
-          trails.lowest-supplier house1 (bounds (formOf network)) N sound ℒ i j q,
-          r (trails.sender-there house1 (bounds (formOf network)) N sound ℒ i j q),
+    followed = trails.along settled (λ (i : ℕ). hasBox N i ≡ true → Followed network list i (back i))
+        (λ i q t. rw (trail-end house1 N ℒ i q) (trails.sender-starts house1 (settled .sound) ℒ (settled .choice) (settled .solved) i t q))
+        (λ i j q r t. rw (trails.trail-next settled i j q) (
+          trails.sender-unstarted house1 (settled .sound) ℒ i j q,
+          trails.sender-supplies house1 (settled .sound) ℒ i j q,
+          trails.lowest-supplier house1 (settled .sound) ℒ i j q,
+          r (trails.sender-there house1 (settled .sound) ℒ i j q),
         ))
 
     shown : (i : ℕ) → owns N i ≡ true → showRecords network list i ≡ given (trail (holding house1 N ℒ (i ∷ back i)))
@@ -107,17 +101,17 @@ module _ (network list : List ℕ) where
         ∙ laid-map (λ (e : ListEntry Route). boxLine (e .id) (e .route)) (λ (k : ℕ). record { id = k; route = ℒ k }) (i ∷ back i)
 
   pub trail-exists : TrailExists network list
-  trail-exists small passes i t present = (back i, shown-back small passes i t, shown-short small passes i t)
+  trail-exists small passes i t present = (back i, shown-trail small passes i t, shown-simple small passes i t)
 
   pub every-trail : EveryTrail network list
-  every-trail small passes i js t present b = short small passes i js present b
+  every-trail = simple
 
-  pub trail-shown : TrailShown network list
-  trail-shown small passes i t = (
+  pub trail-printed : TrailPrinted network list
+  trail-printed small passes i t = (
     back i,
     followed small passes i (own-box N i t),
-    shown-back small passes i t,
-    shown-short small passes i t,
+    shown-trail small passes i t,
+    shown-simple small passes i t,
     shown small passes i t,
     printed small passes i t,
   )
@@ -135,26 +129,22 @@ module _ (network list : List ℕ) where
   pub holds-none : HoldsNone network list
   holds-none small passes i t absent = printed small passes i t
       ∙ ap (λ (js : List ℕ). laidRows (λ (k : ℕ). boxLine k (ℒ k)) (i ∷ js))
-      (trails.none-alone house1 (bounds (formOf network)) N (sound small passes) ℒ (house-choice highest) (solved small passes) (house-costs highest)
-      (adds small passes) i absent)
+      (trails.none-alone (settled small passes) i absent)
       ∙ append-nil (boxLine i (ℒ i)) ∙ ap (boxLine i) absent
 
-  pub shown-refused : ShownRefused network list
+  pub no-trail : NoTrail network list
   unfolding showRecords showing trailOutput shownText verdictLine
-  shown-refused i = (
+  no-trail i = (
     λ number place e. (rw e refl, rw e refl),
     λ verdict e t. (rw (e, t) refl, rw (e, t) refl),
     λ number node count route e t. (rw (e, t) refl, rw (e, t) refl),
   )
 
-  -- an entry that holds none
-  entry-none : (o : Option Route) → isSome o ≡ true → Option·getD o None ≡ None → o ≡ some None
-  entry-none none t e = absurd (false≢true t)
-  entry-none (some r) t e = ap some e
-
   pub from-nowhere : FromNowhere network list
   from-nowhere small passes starts assumed =
-      all-map (ownBoxes N) (λ b f. entry-none (listed L (b .id)) (f .0) (sym (f .1 .0) ∙ f .1 .1))
-      (all-both _ _ (ownBoxes N) (entered small passes) (all-both _ _ (ownBoxes N) (own-held house1 N L (sound small passes .boxes-rise))
-      (trails.nowhere house1 (bounds (formOf network)) N (sound small passes) ℒ (house-choice highest) (solved small passes) (house-costs highest)
-      (adds small passes) starts assumed)))
+      ((silence.empty-pass house1 (house-choice highest) houseAsking (bounds (formOf network)) N (settled small passes .sound) L) .0
+      ((passes-said network list small passes) .2, empty)) .0
+    where
+      empty : Empty house1 N L
+      empty = all-map (ownBoxes N) (λ b f. ap (λ (r : Route). same r None) (sym (f .0) ∙ f .1) ∙ same-refl None) (all-both _ _ (ownBoxes N)
+          (own-held house1 N L (settled small passes .sound .boxes-rise)) (trails.nowhere (settled small passes) starts assumed))

@@ -1,5 +1,5 @@
--- The bench examples of document 01 that are marked P, with document 02's of a policy that adds 0 and of trails on the same networks: one
--- table, one statement.
+-- The bench examples of document 01 that are marked P, and rows for document 02's K1 (policies that add 0) and K2 (trails): one table, one
+-- statement.
 -- Each row has an answer of the definitions, as numbers or as the line that a program prints, and what it must be.
 use mathlib.Core.Path.{_≡_, refl}
 use mathlib.Core.Bool.{cond}
@@ -44,7 +44,7 @@ use Rattle.judging.specs.Text.{verdictLine, judgeBound, namingBound, judgeText}
 use Rattle.tracing.specs.Tracing.{showRecords}
 use Rattle.tracing.specs.Text.{trailLines, shownText, trailOutput, trailText}
 use Rattle.cutting.specs.Cutting.{cutNetwork, cutRecords}
-use Rattle.promises.specs.BenchNetworks.{held, adds, masks, chainRecord, twoAnswers, listing, splitting, pairRecord, pairListing, fedRecord, fedListing}
+use Rattle.promises.specs.BenchNetworks.{held, adds, masks, chainRecord, twoAnswers, twoSenders, listing, splitting, pairRecord, pairListing, fedRecord, fedListing}
 
 pub record Example : Type 0 where
   pub answer : List ℕ
@@ -126,6 +126,9 @@ bench =
     is (tracing (pairRecord (adds 1 ∷ []) None) 2 (pairListing None None)) (text "2 none\n") ∷
     is (tracing (fedRecord (held 100 0 1 0)) 2 (fedListing (held 100 1 1 0))) (text "2 100 1 1 0\n1 100 0 1 0\n") ∷
     is (tracing (fedRecord (held 100 0 1 0)) 1 (fedListing (held 100 1 1 0))) (text "refused 18 1\n") ∷
+    -- a box that two senders supply, of which the lowest is shown; the same box where it starts with that route, and the trail stops there
+    is (tracing (twoSenders None) 3 (listing (held 100 0 1 0) (held 100 0 1 0) (held 100 1 1 0))) (text "3 100 1 1 0\n1 100 0 1 0\n") ∷
+    is (tracing (twoSenders (held 100 1 1 0)) 3 (listing (held 100 0 1 0) (held 100 0 1 0) (held 100 1 1 0))) (text "3 100 1 1 0\n") ∷
     []
 
 -- every answer is the expected one

@@ -2,6 +2,7 @@
 --     held, adds, masks        routes and policies
 --     chainRecord              three boxes in a row
 --     twoAnswers               the network with two settled lists
+--     twoSenders               a box that two others supply
 --     listing, splitting       lists and sheets for three boxes
 --     pairRecord, pairListing  two boxes, and a list for them
 --     fedRecord, fedListing    a box that an input supplies, and a list for it
@@ -50,6 +51,14 @@ twoAnswers = writeNetwork version1 (record {
   policies = adds 1 ∷ record { need = 0; bar = 1; clear = 0; set = 1; flag = true; preference = 200; added = 1 } ∷ [];
   boxes = plain 1 (held 100 0 1 0) Nothing ∷ plain 2 None Nothing ∷ plain 3 None Nothing ∷ [];
   wires = wire 2 1 0 ∷ wire 2 3 1 ∷ wire 3 1 0 ∷ wire 3 2 1 ∷ [];
+})
+
+-- Boxes 1 and 2 start with the same route, and wires from both to box 3 add 1; box 3 starts with a route or with none.
+abbrev pub twoSenders : Route → List ℕ
+twoSenders start = writeNetwork version1 (record {
+  policies = adds 1 ∷ [];
+  boxes = plain 1 (held 100 0 1 0) Nothing ∷ plain 2 (held 100 0 1 0) Nothing ∷ plain 3 start Nothing ∷ [];
+  wires = wire 3 1 0 ∷ wire 3 2 0 ∷ [];
 })
 
 -- Two boxes with wires both ways by the first of these policies; box 1 starts with a route or with none.

@@ -78,7 +78,9 @@ module _ (f : Form) (network list rows stands : List ℕ) (h : Prepared f networ
 
     pub roomy-placed : longest ≤ length out → out′ ≡ placed (trailFrom f network list id) out
     unfolding Written
-    roomy-placed m = let s = short in placed-fits (trailFrom f network list id) out out′ (omega arith) (stored-over out out′ (trailFrom f network list id) (omega arith) (w .0))
+    roomy-placed m =
+        let s = short in
+        placed-fits (trailFrom f network list id) out out′ (omega arith) (stored-over out out′ (trailFrom f network list id) (omega arith) (w .0))
 
 pub owned-boxed : (f : Form) (network : List ℕ) (id : ℕ) → owned f network id ≡ true → boxed f network id ≡ true
 unfolding owned

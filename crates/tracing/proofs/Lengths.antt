@@ -9,20 +9,15 @@ use Prim.Native.Nat.{ℕ, _+_, _-_, _*_, _≤_, _<_}
 use native.Mathlib.Omega.{arith}
 use lib.ListN.{length, take, drop, length-append, length-map}
 use Rattle.lists.specs.Laid.{placed}
-use Rattle.lists.proofs.Filter.{length-filterMap}
-use Rattle.lists.proofs.Rows.{length-rows}
 use Rattle.routes.specs.Carry.{highest}
 use Rattle.routes.specs.declared.Route.{Route}
-use Rattle.networks.specs.Network.{asOwn, ownBoxes}
 use Rattle.networks.specs.Sheets.{ListEntry}
 use Rattle.networks.specs.Trail.{trailBehind, holding}
-use Rattle.layout.specs.Form.{nodeWidth}
-use Rattle.layout.specs.Layout.{nodeCount, nodePart}
 use Rattle.layout.specs.declared.Form.{Form}
 use Rattle.records.specs.Edge.{owned}
 use Rattle.reading.specs.House.{house}
-use Rattle.reading.specs.Parts.{boxAt}
 use Rattle.reading.specs.Whole.{readNetwork}
+use Rattle.reading.proofs.Lengths.{own-few}
 use Rattle.lines.specs.Line.{boxLine, lineBytes, longestBoxLine}
 use Rattle.lines.specs.declared.Line.{Line}
 use Rattle.lines.proofs.Answers.{answer-read}
@@ -44,24 +39,14 @@ lines-short (e ∷ es) =
     omega (arith, length-append (boxLine (e .id) (e .route)) (trailLines es))
 
 module _ (f : Form) (network list rows stands : List ℕ) (h : Prepared f network list rows stands) (p : Passing f network list) (id : ℕ) where
-  -- a table has a row for each own box
-  own-few : length (ownBoxes (readNetwork f network)) ≤ 1024
-  unfolding readNetwork
-  own-few =
-      let room = prepared-checked f network list rows stands h .room in
-      let few = room .few in
-      let most = room .usable .few in
-      let all = length-rows (boxAt (f .route) network) (nodeWidth f) (nodePart network) (nodeCount network) in
-      let ours = length-filterMap asOwn (readNetwork f network .boxes) in
-      omega arith
-
   pub from-short : owned f network id ≡ true → length (trailFrom f network list id) ≤ longestTrail
   unfolding trailFrom
   from-short o =
       let ℒ = mappingIn f network list in
       let behind = trailBehind (house highest) (readNetwork f network) ℒ id in
       let few = behind-few f network list rows stands h p id o in
-      let own = own-few in
+      let room = prepared-checked f network list rows stands h .room in
+      let own = own-few f network (room .few) (room .usable .few) in
       let l = lines-short (holding (house highest) (readNetwork f network) ℒ (id ∷ behind)) in
       omega (arith, length-map {B = ListEntry Route} behind (λ (j : ℕ). record { id = j; route = ℒ j }))
 

@@ -17,11 +17,11 @@ use Rattle.networks.specs.Solution.{Solution}
 use Rattle.networks.specs.Sound.{Sound}
 use Rattle.networks.specs.Trail.{trailBehind}
 use Rattle.networks.proofs.Laws.Judging.{pass-verdict, solved}
-use Rattle.networks.proofs.Trails as trails
+use Rattle.networks.proofs.Laws.Senders.{trail-end}
+use Rattle.networks.proofs.Trails.{Settled, sender-there, sender-falls, trail-next, shown-short}
 use Rattle.layout.specs.declared.Form.{Form}
 use Rattle.records.specs.Checked.{CheckedNetwork}
 use Rattle.records.specs.Edge.{boxed, owned}
-use Rattle.reading.specs.Adding.{Adding}
 use Rattle.reading.specs.House.{house, costOf}
 use Rattle.reading.specs.Whole.{HouseNetwork, HouseList, bounds, readNetwork, readList}
 use Rattle.reading.proofs.Adding.{fine-adds}
@@ -50,32 +50,37 @@ module _ (f : Form) (network list rows stands : List ℕ) (h : Prepared f networ
   sound : Sound (bounds f) N
   sound = read-sound f network (checked .bytes) (checked .sound)
 
-  adds : Adding N
-  adds = fine-adds f network (checked .sound)
-
   solution : Solution (house highest) N ℒ
   unfolding Passing verdictAt
   solution = (solved (house highest) N L (sound .boxes-rise)
       ((pass-verdict (house highest) N L 0 (p .0) (ownBoxes N) (given-same (p .1))) .0)) .0
 
+  abbrev settled : Settled (house highest) (bounds f) N ℒ
+  settled = record {
+    sound = sound;
+    choice = house-choice highest;
+    solved = solution;
+    costs = house-costs highest;
+    lawful = fine-adds f network (checked .sound);
+  }
+
   module _ (i : ℕ) where
     -- the trail stops at the box
     pub from-last : senderIn f network list i ≡ none → trailFrom f network list i ≡ trailLine f network list i
     unfolding trailFrom trailLines trailLine
-    from-last e = rw (trails.trail-end (house highest) (bounds f) N sound ℒ (house-choice highest) solution (house-costs highest) adds i e) (append-nil (trailLine f network list i))
+    from-last e = rw (trail-end (house highest) N ℒ i e) (append-nil (trailLine f network list i))
 
     -- it goes back to another
     module _ (j : ℕ) (e : senderIn f network list i ≡ some j) where
       pub from-next : trailFrom f network list i ≡ trailLine f network list i ++ trailFrom f network list j
       unfolding trailFrom trailLines trailLine
-      from-next = rw (trails.trail-next (house highest) (bounds f) N sound ℒ (house-choice highest) solution (house-costs highest) adds i j e)
+      from-next = rw (trail-next settled i j e)
 
       pub sent-boxed : boxed f network j ≡ true
-      sent-boxed = sym (has-box-read f network j)
-          ∙ trails.sender-there (house highest) (bounds f) N sound ℒ i j e
+      sent-boxed = sym (has-box-read f network j) ∙ sender-there (house highest) sound ℒ i j e
 
       pub sent-cheaper : costOf (ℒ j) < costOf (ℒ i)
-      sent-cheaper = trails.sender-falls (house highest) (bounds f) N sound ℒ (house-choice highest) solution (house-costs highest) adds i j e
+      sent-cheaper = sender-falls settled i j e
 
     pub behind-few : owned f network i ≡ true → length (trailBehind (house highest) N ℒ i) ≤ length (ownBoxes N)
-    behind-few o = trails.shown-short (house highest) (bounds f) N sound ℒ (house-choice highest) solution (house-costs highest) adds i (owns-read f network i ∙ o)
+    behind-few o = shown-short settled i (owns-read f network i ∙ o)

@@ -71,11 +71,11 @@ module _ (𝓐 : Algebra) where
 
     module _ (N : NetworkOver 𝓐) (formed : Formed N) (L : RouteList Route) (none-listed : ListsNone 𝓐 N L) where
       -- what a wire gives
-      abbrev gives : Wire → Route
-      gives w = trans 𝓐 N w (mapping 𝓐 N L (w .from))
+      abbrev offer : Wire → Route
+      offer w = trans 𝓐 N w (mapping 𝓐 N L (w .from))
 
       abbrev pub Crossed : Type 0
-      Crossed = All (λ (w : Wire). gives w ≡ noRoute) (N .wires)
+      Crossed = All (λ (w : Wire). offer w ≡ noRoute) (N .wires)
 
       abbrev NoRoute : Route → Type 0
       NoRoute r = r ≡ noRoute
@@ -87,11 +87,11 @@ module _ (𝓐 : Algebra) where
       own-none = all-map (ownBoxes N) (λ b f. f .0 ∙ f .1) (all-both _ _ (ownBoxes N) (own-held 𝓐 N L (formed .rise)) own-held-none)
 
       -- a wire comes from an own box, which holds none, or from an input, whose route is eaten, or from nobody
-      from-input : (w : Wire) → ((a : Input Route) → box N (w .from) ≡ some (input a) → trans 𝓐 N w (a .assumed) ≡ noRoute) → gives w ≡ noRoute
+      from-input : (w : Wire) → ((a : Input Route) → box N (w .from) ≡ some (input a) → trans 𝓐 N w (a .assumed) ≡ noRoute) → offer w ≡ noRoute
       unfolding mapping
       from-input w f = go (box N (w .from)) refl
         where
-          go : (o : Option (Box Route Demand)) → box N (w .from) ≡ o → gives w ≡ noRoute
+          go : (o : Option (Box Route Demand)) → box N (w .from) ≡ o → offer w ≡ noRoute
           go none q = rw q (trans-none N w)
           go (some (own b)) q = ap (trans 𝓐 N w) (mapping-own 𝓐 N L (w .from) b q
               ∙ own-found N (λ (c : Own Route Demand). held 𝓐 L (c .id) ≡ noRoute) (w .from) b own-held-none q) ∙ trans-none N w
@@ -113,7 +113,7 @@ module _ (𝓐 : Algebra) where
           → All (λ (b : Own Route Demand). due 𝓐 N (mapping 𝓐 N L) b ≡ noRoute) (ownBoxes N)
       unfolding due
       crossed-due starts crossed = all-map (ownBoxes N) (λ b e. none-bestOf (b .initial) (offers 𝓐 N (mapping 𝓐 N L) (b .id)) e
-          (all-mapped NoRoute gives (wiresInto N (b .id))
+          (all-mapped NoRoute offer (wiresInto N (b .id))
           (all-filter _ (λ (w : Wire). eqb (w .to) (b .id)) (N .wires) (all-map (N .wires) (λ w c t. c) crossed)))) starts
 
       -- every wire leads to an own box, where nothing is due
@@ -123,10 +123,10 @@ module _ (𝓐 : Algebra) where
       due-crossed dues = (
         all-map (ownBoxes N) (λ b e. (bestOf-none (b .initial) (offers 𝓐 N (mapping 𝓐 N L) (b .id)) e) .0) dues,
         all-map (N .wires) (λ w f. f .1 (w .to, f .0 .to-own) (eq-eqb (w .to) (w .to) refl)) (all-both _ _ (N .wires) (formed .joined)
-            (all-each (λ (k : (i : ℕ) × (owns N i ≡ true)) (w : Wire). eqb (w .to) (k .0) ≡ true → gives w ≡ noRoute)
+            (all-each (λ (k : (i : ℕ) × (owns N i ≡ true)) (w : Wire). eqb (w .to) (k .0) ≡ true → offer w ≡ noRoute)
             (N .wires) (λ k. own-fact N _ (k .0) into (k .1)))),
       )
         where
-          into : All (λ (b : Own Route Demand). All (λ (w : Wire). eqb (w .to) (b .id) ≡ true → gives w ≡ noRoute) (N .wires)) (ownBoxes N)
-          into = all-map (ownBoxes N) (λ b e. filtered-all (λ (w : Wire). gives w ≡ noRoute) (λ (w : Wire). eqb (w .to) (b .id)) (N .wires)
-              (mapped-all NoRoute gives (wiresInto N (b .id)) ((bestOf-none (b .initial) (offers 𝓐 N (mapping 𝓐 N L) (b .id)) e) .1))) dues
+          into : All (λ (b : Own Route Demand). All (λ (w : Wire). eqb (w .to) (b .id) ≡ true → offer w ≡ noRoute) (N .wires)) (ownBoxes N)
+          into = all-map (ownBoxes N) (λ b e. filtered-all (λ (w : Wire). offer w ≡ noRoute) (λ (w : Wire). eqb (w .to) (b .id)) (N .wires)
+              (mapped-all NoRoute offer (wiresInto N (b .id)) ((bestOf-none (b .initial) (offers 𝓐 N (mapping 𝓐 N L) (b .id)) e) .1))) dues

@@ -1,25 +1,29 @@
--- Wires stand by their to end, then by their from end.
+-- Wires stand by their to end, then by their from end; and what comes over a lawful one.
 --     wire-order                 what the key of a wire says where ids are ids
 --     into-rise, into-all        the wires into a box stand by rising sender, and have what every wire has
 --     edge-there, edge-wire, edge-ends     there is a wire from u to v exactly where uv is an edge; of rising wires each is the one between its ends
+--     trans-dearer               what comes over a lawful wire costs more
 use mathlib.Core.Path.{_≡_, refl, _∙_}
 use mathlib.Core.Bool.{Bool, true, false, cond, _||_, and-comm}
 use mathlib.Core.List.{List, [], _∷_}
 use mathlib.Core.Logic.{_↔_, _⊎_, inl, inr, ⊎-elim}
-use mathlib.Core.Option.{some}
+use mathlib.Core.Option.{Option, none, some, Option·map, Option·getD}
 use Prim.Native.Nat.{ℕ, suc, _-_, _*_, _<_, _≤_}
 use native.Mathlib.Omega.{arith}
 use lib.Dec.{eqb}
+use lib.ListN.{getElem?}
 use borrow.Author.Tests.{eqb-true, eq-eqb}
 use Rattle.lists.specs.All.{All, any}
-use Rattle.lists.proofs.All.{all-map, all-of, all-each, any-congr}
+use Rattle.lists.proofs.All.{all-map, all-of, all-each, all-at, any-congr}
 use Rattle.lists.specs.Answer.{isSome}
 use Rattle.lists.proofs.Filter.{any-filter, all-filter, filtered-all}
 use Rattle.lists.specs.Sorted.{find, Rises}
 use Rattle.lists.proofs.Sorted.{rises-weak, rises-filter, find-key, find-all, find-self}
 use Rattle.lists.proofs.Test.{le-or-lt}
-use Rattle.networks.specs.Network.{Wire, Network, ids, wireKey, wiresInto}
+use Rattle.networks.specs.Algebra.{Algebra, Costs}
+use Rattle.networks.specs.Network.{Wire, Network, NetworkOver, ids, wireKey, wiresInto}
 use Rattle.networks.specs.Paper.{E, edge}
+use Rattle.networks.specs.Solution.{trans}
 
 pub wire-order : (w v : Wire) → w .from < ids → v .from < ids → (wireKey w < wireKey v) ↔ ((w .to < v .to) ⊎ ((w .to ≡ v .to) × (w .from < v .from)))
 wire-order w v l m = (
@@ -77,3 +81,16 @@ module _ {R P D : Type 0} (N : Network R P D) where
   edge-ends Q u v w h e =
       let f = find-all (λ (x : Wire). x .from) (λ (x : Wire). Q x × (x .to ≡ v)) u (wiresInto N v) w (into-all Q v h) e in
       (f .0, find-key (λ (x : Wire). x .from) u (wiresInto N v) w e, f .1)
+
+module _ (𝓐 : Algebra) (costs : Costs 𝓐) (N : NetworkOver 𝓐) (lawful : All (costs .Lawful) (N .policies)) where
+  open Algebra 𝓐 using (Route, Policy, noRoute, carry)
+
+  pub trans-dearer : (w : Wire) (r : Route) → (trans 𝓐 N w r ≡ noRoute → ⊥) → costs .cost r < costs .cost (trans 𝓐 N w r)
+  trans-dearer w r = go (getElem? (N .policies) (w .policy)) refl
+    where
+      over : Option Policy → Route
+      over o = Option·getD (Option·map (λ (p : Policy). carry p r) o) noRoute
+
+      go : (o : Option Policy) → getElem? (N .policies) (w .policy) ≡ o → (over o ≡ noRoute → ⊥) → costs .cost r < costs .cost (over o)
+      go none q present = absurd (present refl)
+      go (some p) q present = costs .dearer p r (all-at (costs .Lawful) (N .policies) (w .policy) p lawful q) present
