@@ -2,7 +2,7 @@
 --     Starts, Supplies, Trail       a trail: from a box back over wires, each of which gives the box before it what that holds, to a box that
 --                                   holds its own initial route or an assumed one
 --     supplier, sender, behind, trailBehind     the trail that is shown
---     holding, Shown, showing       the answer: the boxes of a trail with what they hold, or the finding of a list that fails
+--     withRoutes, Shown, showing       the answer: the boxes of a trail with what they hold, or the finding of a list that fails
 use mathlib.Core.Path.{_≡_}
 use mathlib.Core.Bool.{Bool, true, cond, not}
 use mathlib.Core.Option.{Option, none, some, Option·map, Option·elim}
@@ -68,8 +68,8 @@ module _ (𝓐 : Algebra) (N : NetworkOver 𝓐) (ℒ : ℕ → 𝓐 .Route) whe
   trailBehind i = behind (length (ownBoxes N)) i
 
   -- these boxes, each with the route that it holds
-  abbrev pub holding : List ℕ → List (ListEntry Route)
-  holding = map (λ (j : ℕ). record { id = j; route = ℒ j })
+  abbrev pub withRoutes : List ℕ → List (ListEntry Route)
+  withRoutes = map (λ (j : ℕ). record { id = j; route = ℒ j })
 
 -- The boxes of a trail, or a finding with its number, box, route and count.
 pub data Shown (R : Type 0) : Type 0 where
@@ -87,4 +87,4 @@ module _ (𝓐 : Algebra) (N : NetworkOver 𝓐) (L : RouteList (𝓐 .Route)) (
   namedTable = (not (owns N i), refused 18 i) ∷ []
 
   unfoldable pub showing : Verdict (𝓐 .Route) → Answer (Shown (𝓐 .Route))
-  showing verdict = firstOf namedTable (given (shownAfter verdict (holding 𝓐 N (mapping 𝓐 N L) (i ∷ trailBehind 𝓐 N (mapping 𝓐 N L) i))))
+  showing verdict = firstOf namedTable (given (shownAfter verdict (withRoutes 𝓐 N (mapping 𝓐 N L) (i ∷ trailBehind 𝓐 N (mapping 𝓐 N L) i))))

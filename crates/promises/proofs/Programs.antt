@@ -20,7 +20,7 @@ use Rattle.routes.specs.declared.Route.{Route}
 use Rattle.networks.specs.Judge.{Verdict, pass, found}
 use Rattle.networks.specs.Network.{owns}
 use Rattle.networks.specs.Solution.{mapping}
-use Rattle.networks.specs.Trail.{Shown, shownAfter, showing, trailBehind, holding}
+use Rattle.networks.specs.Trail.{Shown, shownAfter, showing, trailBehind, withRoutes}
 use Rattle.layout.specs.Form.{nodeWidth, formOf, widest}
 use Rattle.layout.specs.declared.Form.{Form}
 use Rattle.reading.specs.Largest.{largestNetwork}
@@ -163,7 +163,7 @@ shown-first network list id = go (judgeRecords network list) (owns (networkOf ne
     -- what is shown after an answer of the judge's, where there is such an own box or not
     after : Answer (Verdict Route) → Bool → Answer (Shown Route)
     after a t = andThen a (λ (verdict : Verdict Route). firstOf ((not t, refused 18 id) ∷ [])
-        (given (shownAfter verdict (holding house1 (networkOf network) ℒ (id ∷ trailBehind house1 (networkOf network) ℒ id)))))
+        (given (shownAfter verdict (withRoutes house1 (networkOf network) ℒ (id ∷ trailBehind house1 (networkOf network) ℒ id)))))
 
     go : (a : Answer (Verdict Route)) (t : Bool) → TrailMarked (after a t) (take 1 (shownText (after a t)))
     go (given (pass count)) true = let d = decimal-first id in (d .0, d .2, d .3, rw (d .4) refl)

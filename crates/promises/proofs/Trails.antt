@@ -19,7 +19,7 @@ use Rattle.routes.proofs.Ordered.{same-refl}
 use Rattle.networks.specs.Network.{ownBoxes, hasBox, owns}
 use Rattle.networks.specs.Sheets.{ListEntry}
 use Rattle.networks.specs.Silence.{Empty}
-use Rattle.networks.specs.Trail.{Trail, trail, trailBehind, holding, showing}
+use Rattle.networks.specs.Trail.{Trail, trail, trailBehind, withRoutes, showing}
 use Rattle.networks.proofs.Laws.Boxes.{own-box}
 use Rattle.networks.proofs.Laws.Judging.{own-held}
 use Rattle.networks.proofs.Laws.Senders.{trail-end}
@@ -91,7 +91,7 @@ module _ (network list : List ℕ) where
           r (trails.sender-there house1 (settled .sound) ℒ i j q),
         ))
 
-    shown : (i : ℕ) → owns N i ≡ true → showRecords network list i ≡ given (trail (holding house1 N ℒ (i ∷ back i)))
+    shown : (i : ℕ) → owns N i ≡ true → showRecords network list i ≡ given (trail (withRoutes house1 N ℒ (i ∷ back i)))
     unfolding showRecords showing
     shown i t = rw (passes .1, t) refl
 

@@ -22,7 +22,7 @@ use Rattle.networks.specs.Judge.{Verdict, found}
 use Rattle.networks.specs.Network.{Own, Input, ownBoxes, inputs, owns}
 use Rattle.networks.specs.Silence.{ListsNone}
 use Rattle.networks.specs.Solution.{mapping}
-use Rattle.networks.specs.Trail.{Starts, Supplies, Trail, holding, trail, fails}
+use Rattle.networks.specs.Trail.{Starts, Supplies, Trail, withRoutes, trail, fails}
 use Rattle.reading.specs.Whole.{HouseNetwork, HouseList, networkOf, listOf}
 use Rattle.lines.specs.Line.{boxLine, refusedLine}
 use Rattle.judging.specs.Judging.{judgeRecords}
@@ -66,7 +66,7 @@ module _ (network list : List ℕ) where
   abbrev pub TrailPrinted : Type 0
   TrailPrinted = Bytes network → Passes network list → (i : ℕ) → owns N i ≡ true
       → (js : List ℕ) × Followed i js × Trail house1 N mappingOf i js × Simple i js
-      × (showRecords network list i ≡ given (trail (holding house1 N mappingOf (i ∷ js))))
+      × (showRecords network list i ≡ given (trail (withRoutes house1 N mappingOf (i ∷ js))))
       × (trailOutput network list i ≡ laidRows (λ (k : ℕ). boxLine k (mappingOf k)) (i ∷ js))
 
   -- No other boxes follow the rule.

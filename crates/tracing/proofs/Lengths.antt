@@ -12,7 +12,7 @@ use Rattle.lists.specs.Laid.{placed}
 use Rattle.routes.specs.Carry.{highest}
 use Rattle.routes.specs.declared.Route.{Route}
 use Rattle.networks.specs.Sheets.{ListEntry}
-use Rattle.networks.specs.Trail.{trailBehind, holding}
+use Rattle.networks.specs.Trail.{trailBehind, withRoutes}
 use Rattle.layout.specs.declared.Form.{Form}
 use Rattle.records.specs.Edge.{owned}
 use Rattle.reading.specs.House.{house}
@@ -47,7 +47,7 @@ module _ (f : Form) (network list rows stands : List ℕ) (h : Prepared f networ
       let few = behind-few f network list rows stands h p id o in
       let room = prepared-checked f network list rows stands h .room in
       let own = own-few f network (room .few) (room .usable .few) in
-      let l = lines-short (holding (house highest) (readNetwork f network) ℒ (id ∷ behind)) in
+      let l = lines-short (withRoutes (house highest) (readNetwork f network) ℒ (id ∷ behind)) in
       omega (arith, length-map {B = ListEntry Route} behind (λ (j : ℕ). record { id = j; route = ℒ j }))
 
 -- the line of a verdict

@@ -18,7 +18,7 @@ use Rattle.routes.specs.Carry.{highest}
 use Rattle.routes.specs.Order.{same}
 use Rattle.routes.specs.declared.Demand.{Demand}
 use Rattle.routes.specs.declared.Route.{Route}
-use Rattle.networks.specs.Network.{Box, own, input, Wire, box}
+use Rattle.networks.specs.Network.{Box, Wire, box}
 use Rattle.networks.specs.Trail.{gives, stops, supplier, sender}
 use Rattle.layout.specs.Layout.{edgeCount, nodeOffset, edgeOffset}
 use Rattle.layout.specs.declared.Form.{Form}

@@ -9,7 +9,7 @@ use Rattle.lists.specs.Rows.{laidRows}
 use Rattle.routes.specs.Carry.{highest}
 use Rattle.routes.specs.declared.Route.{Route}
 use Rattle.networks.specs.Sheets.{ListEntry}
-use Rattle.networks.specs.Trail.{Shown, trail, fails, trailBehind, holding}
+use Rattle.networks.specs.Trail.{Shown, trail, fails, trailBehind, withRoutes}
 use Rattle.layout.specs.declared.Form.{Form}
 use Rattle.reading.specs.House.{house}
 use Rattle.reading.specs.Whole.{readNetwork}
@@ -36,7 +36,7 @@ module _ (f : Form) (network list : List ℕ) where
 
   -- the lines of the trail that is shown of a box
   unfoldable pub trailFrom : ℕ → List ℕ
-  trailFrom id = trailLines (holding (house highest) (readNetwork f network) (mappingIn f network list)
+  trailFrom id = trailLines (withRoutes (house highest) (readNetwork f network) (mappingIn f network list)
       (id ∷ trailBehind (house highest) (readNetwork f network) (mappingIn f network list) id))
 
   -- what is printed of a box, where judging refuses nothing
