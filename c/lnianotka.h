@@ -2,8 +2,8 @@
  *
  * Every function takes any bytes and comes back. What it promises is proved; what a caller owes is what the types of the
  * proved functions say: a pointer is never null, not even where its length is 0, and no byte of what is written to is a byte
- * of the input. A call takes some 150 kilobytes of stack, one for a trail of 512 boxes some 250. Nothing is kept between
- * calls. */
+ * of the input. A call takes some 150 kilobytes of stack, one for a trail of 512 boxes some 250, one that joins some 270.
+ * Nothing is kept between calls. */
 #ifndef LNIANOTKA_H
 #define LNIANOTKA_H
 
@@ -18,12 +18,15 @@ extern "C" {
 size_t lnianotka_judge_input(void);
 size_t lnianotka_trail_input(void);
 size_t lnianotka_cut_input(void);
+size_t lnianotka_join_input(void);
 
-/* Room enough for every answer of the judge, of the census, of the trail, and of the cutter. The census reads what the judge reads. */
+/* Room enough for every answer of the judge, of the census, of the trail, of the cutter, and of the join. The census reads what the judge
+ * reads. */
 size_t lnianotka_judge_answer(void);
 size_t lnianotka_census_answer(void);
 size_t lnianotka_trail_answer(void);
 size_t lnianotka_cut_answer(void);
+size_t lnianotka_join_answer(void);
 
 /* The number of the first refusal, 1 to 10, that applies to a network record, with its place in `*place`; both are 0 where the
  * network is sound. */
@@ -46,6 +49,10 @@ size_t lnianotka_trail(const uint8_t *input, size_t length, uint8_t *out, size_t
 /* What the cutting program writes when it reads `input`: a network record, one byte for the fragment asked, and then a
  * sheet record. A fragment begins with a zero byte, a refused line with 'r'. Answers and writes as lnianotka_judge does. */
 size_t lnianotka_cut(const uint8_t *input, size_t length, uint8_t *out, size_t room);
+
+/* What the joining program writes when it reads `input`: a network record and then another. The network that the two make begins with
+ * a zero byte, a refused line with 'r'. Answers and writes as lnianotka_judge does. */
+size_t lnianotka_join(const uint8_t *input, size_t length, uint8_t *out, size_t room);
 
 #ifdef __cplusplus
 }

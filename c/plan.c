@@ -1,6 +1,6 @@
 /* The library from C: `plan check` reads a network from standard input and says whether it is sound, `plan judge`, `plan census`,
- * `plan trail` and `plan cut` are the programs. The status is 0 for a sound network, a pass, a trail or a fragment, 1 for a finding or a
- * silent box in a census, 2 for a refusal, 3 where there is no answer. */
+ * `plan trail`, `plan cut` and `plan join` are the programs. The status is 0 for a sound network, a pass, a trail, a fragment or a joint
+ * network, 1 for a finding or a silent box in a census, 2 for a refusal, 3 where there is no answer. */
 #include "lnianotka.h"
 
 #include <stdio.h>
@@ -46,7 +46,7 @@ static int status_of(uint8_t first)
     }
 }
 
-/* Whether a census names a silent box. No other answer has a line that begins so: a fragment begins with a zero byte and a trail with a
+/* Whether a census names a silent box. No other answer has a line that begins so: a network begins with a zero byte and a trail with a
  * digit, and neither is a pass. */
 static int silent_in(const uint8_t *text, size_t length)
 {
@@ -116,5 +116,9 @@ int main(int count, char **words)
     if (count == 2 && strcmp(words[1], "cut") == 0) {
         return answer(lnianotka_cut, lnianotka_cut_input(), lnianotka_cut_answer());
     }
-    return fail("usage: plan check < NETWORK, plan judge < PLAN, plan census < PLAN, plan trail < PLAN, or plan cut < PLAN > FRAGMENT");
+    if (count == 2 && strcmp(words[1], "join") == 0) {
+        return answer(lnianotka_join, lnianotka_join_input(), lnianotka_join_answer());
+    }
+    return fail("usage: plan check < NETWORK, plan judge < PLAN, plan census < PLAN, plan trail < PLAN, plan cut < PLAN > FRAGMENT, or "
+                "plan join < NETWORKS > NETWORK");
 }

@@ -8,7 +8,9 @@ A plan NAME is NAME.network, NAME.list and NAME.sheet, put together as NAME.judg
 reads) and NAME.cutK (what the cutter reads to cut out fragment K). Each input's answer stands in
 the file of the same name with .out behind it. NAME.partK.judge is fragment K, as it was cut out,
 with the list of the whole; there is none where the cut is refused. Of some plans NAME.census and NAME.partK.census are the same inputs, for
-the census, and NAME.trailID and NAME.partK.trailID ask for the trail of the box ID.
+the census, and NAME.trailID and NAME.partK.trailID ask for the trail of the box ID. NAME.joinKL is fragment K followed by
+fragment L, for the join; with more numbers it is two networks of which one or both were joined before (join01234 is the answer to
+join0123, followed by fragment 4). NAME.joined is the network that all of them make.
 """
 
 import pathlib
@@ -37,6 +39,10 @@ def node(id, initial=NONE, promise=None, demand=(0, 0, 0)):
     flag = 0 if promise is None else 1
     head = struct.pack(">HB", id, 0) + initial
     return head + bytes([flag]) + (promise or NONE) + struct.pack(">BHH", *demand)
+
+
+def input_node(id, assumed):
+    return struct.pack(">HB", id, 1) + assumed + bytes(15)
 
 
 def record(body):
@@ -138,11 +144,8 @@ def fat_tree_wires():
     return both_ways(pairs)
 
 
-def fat_tree_plan(wires, policies):
-    """Box 6 is the destination; every box must reach it at a cost of 4 at most. Cut by pods, the
-    spine being fragment 4."""
-    nodes = {id: node(id, demand=(1, 4, 0)) for id in range(20)}
-    nodes[6] = node(6, route(100, 0, 6), demand=(1, 4, 0))
+def fat_tree_held():
+    """What each box of the fat-tree comes to hold, box 6 being the destination."""
     cost = {id: 2 for id in range(4)}
     for id in range(4, 20):
         pod, lower = (id - 4) // 4, (id - 4) % 4 >= 2
@@ -150,9 +153,20 @@ def fat_tree_plan(wires, policies):
             (pod == 0, lower)
         ]
     cost[6] = 0
-    held = {id: route(100, cost[id], 6) for id in range(20)}
+    return {id: route(100, cost[id], 6) for id in range(20)}
+
+
+def fat_tree_nodes(promises):
+    """The fat-tree's boxes; every one must reach box 6 at a cost of 4 at most."""
+    start = {6: route(100, 0, 6)}
+    return {id: node(id, start.get(id, NONE), promises.get(id), (1, 4, 0)) for id in range(20)}
+
+
+def fat_tree_plan(wires, policies):
+    """The fat-tree cut by pods, the spine being fragment 4."""
+    held = fat_tree_held()
     numbers = {id: 4 if id < 4 else (id - 4) // 4 for id in range(20)}
-    return network(policies, nodes, wires), held, numbers, held
+    return network(policies, fat_tree_nodes({}), wires), held, numbers, held
 
 
 def fat_tree():
@@ -164,6 +178,25 @@ def fat_tree_drop():
     """The same, but box 4 lets nothing out: only the spine's fragment has a fault."""
     wires = [(a, b, 1 if a == 4 else 0) for a, b, _ in fat_tree_wires()]
     return fat_tree_plan(wires, [policy(), policy(need=0xFFFF)])
+
+
+def fat_tree_joined():
+    """The fat-tree's network as its parts make it again: the boxes that cut wires leave, which are the
+    spine's and the pods' upper ones, promise their notes."""
+    notes = {id: held for id, held in fat_tree_held().items() if id < 4 or id % 4 < 2}
+    return network([policy()], fat_tree_nodes(notes), fat_tree_wires())
+
+
+def fat_tree_edited():
+    """The second pod's part as its site sends it back, and what its boxes hold then. Box 8 starts with a
+    route of its own and promises it; the spine's boxes 0 and 1 feed box 8 and the boxes 2 and 3 feed box 9."""
+    held = {8: route(100, 1, 6), 9: route(100, 3, 6), 10: route(100, 2, 6), 11: route(100, 2, 6)}
+    promises = {id: held[id] for id in (8, 9)}
+    starts = {8: held[8]}
+    nodes = {id: node(id, starts.get(id, NONE), promises.get(id), (1, 4, 0)) for id in held}
+    nodes |= {id: input_node(id, route(100, 2, 6)) for id in range(4)}
+    wires = [(a, b, number) for a, b, number in fat_tree_wires() if b in held]
+    return network([policy()], nodes, wires), held
 
 
 def silent_feed():
@@ -211,11 +244,64 @@ TRACED = {
 }
 
 
+# The steps in which the fat-tree's parts are joined, by the numbers of what is on either side: one after another, and by twos.
+JOINED = [
+    ("0", "1"),
+    ("01", "2"),
+    ("012", "3"),
+    ("0123", "4"),
+    ("4", "2"),
+    ("3", "0"),
+    ("42", "1"),
+    ("421", "30"),
+]
+
+
 def reference(command, data):
     """What the reference prints."""
     run = ["cargo", "run", "--release", "--offline", "--quiet", "--", command]
     done = subprocess.run(run, cwd=REFERENCE, input=data, stdout=subprocess.PIPE, check=True)
     return done.stdout
+
+
+def fragments_of(name):
+    """What the cutter reads and what it answers, by fragment numbers."""
+    plan, _, numbers, notes = PLANS[name]()
+    asked = {k: plan + bytes([k]) + sheet(numbers, notes) for k in sorted(set(numbers.values()))}
+    return {k: (data, reference("cut", data)) for k, data in asked.items()}
+
+
+def joined_files():
+    """The fat-tree's parts joined again, and parts that do not fit together."""
+    parts = {str(k): fragment for k, (_, fragment) in fragments_of("fat-tree").items()}
+    files = {}
+
+    def join(ending, first, second):
+        files[ending] = first + second
+        files[f"{ending}.out"] = reference("join", first + second)
+        return files[f"{ending}.out"]
+
+    for one, other in JOINED:
+        parts[one + other] = join(f"join{one}{other}", parts[one], parts[other])
+
+    _, held, numbers, notes = fat_tree()
+    joined, listed, cut_by = fat_tree_joined(), route_list(held), sheet(numbers, notes)
+    files["joined.network"] = joined
+    files["joined.judge"] = joined + listed
+    files["joined.judge.out"] = reference("judge", joined + listed)
+    for k in sorted(set(numbers.values())):
+        asked = joined + bytes([k]) + cut_by
+        files[f"joined.cut{k}"], files[f"joined.cut{k}.out"] = asked, reference("cut", asked)
+
+    edited, edited_list = fat_tree_edited()
+    files["edited.network"], files["edited.list"] = edited, route_list(edited_list)
+    files["edited.judge"] = edited + files["edited.list"]
+    files["edited.judge.out"] = reference("judge", files["edited.judge"])
+    join("edited.join14", edited, parts["4"])
+    join("edited.join41", parts["4"], edited)
+    join("edited.join11", edited, parts["1"])
+    join("drop.join04", parts["0"], fragments_of("fat-tree-drop")[4][1])
+    return {f"fat-tree.{ending}": data for ending, data in files.items()}
 
 
 def files_of(name):
@@ -224,9 +310,7 @@ def files_of(name):
     listed, cut_by = route_list(held), sheet(numbers, notes)
     files = {"network": plan, "list": listed, "sheet": cut_by}
     judged = {"": plan + listed}
-    for k in sorted(set(numbers.values())):
-        asked = plan + bytes([k]) + cut_by
-        fragment = reference("cut", asked)
+    for k, (asked, fragment) in fragments_of(name).items():
         files[f"cut{k}"], files[f"cut{k}.out"] = asked, fragment
         if not fragment.startswith(b"refused "):
             judged[f"part{k}."] = fragment + listed
@@ -245,6 +329,7 @@ def main():
     files = {}
     for name in PLANS:
         files.update(files_of(name))
+    files.update(joined_files())
     if sys.argv[1:] != ["--check"]:
         for name, data in files.items():
             (HERE / name).write_bytes(data)

@@ -7,6 +7,7 @@ extern "C" {
     fn lnianotka_trail_answer() -> usize;
     fn lnianotka_trail(input: *const u8, length: usize, out: *mut u8, room: usize) -> usize;
     fn lnianotka_cut(input: *const u8, length: usize, out: *mut u8, room: usize) -> usize;
+    fn lnianotka_join(input: *const u8, length: usize, out: *mut u8, room: usize) -> usize;
 }
 
 /// Number and place of the first refusal of 1 to 10 that applies to a network, or two zeros.
@@ -45,4 +46,10 @@ pub fn trail(input: &[u8], out: &mut [u8]) -> usize {
 pub fn cut(input: &[u8], out: &mut [u8]) -> usize {
     // SAFETY: as above.
     unsafe { lnianotka_cut(input.as_ptr(), input.len(), out.as_mut_ptr(), out.len()) }
+}
+
+/// The join's answer, laid at the start of `out` where it fits; gives its length.
+pub fn join(input: &[u8], out: &mut [u8]) -> usize {
+    // SAFETY: as above.
+    unsafe { lnianotka_join(input.as_ptr(), input.len(), out.as_mut_ptr(), out.len()) }
 }

@@ -1,10 +1,10 @@
-//! Times check, judge, census, cut and trail of the proved library against the reference: the same
-//! bytes, one process, the two by turns, so that what else the machine does falls on both.
+//! Times check, judge, census, cut, join and trail of the proved library against the reference: the
+//! same bytes, one process, the two by turns, so that what else the machine does falls on both.
 
 mod library;
 
 use reference::bench::{self, Load};
-use reference::call::{CENSUS, CUT, JUDGE, TRAIL};
+use reference::call::{CENSUS, CUT, JOIN, JUDGE, TRAIL};
 use reference::form::VERSION_1;
 use reference::record;
 use std::hint::black_box;
@@ -46,11 +46,13 @@ fn time_load(load: &Load, over: &mut Vec<String>) {
     show(load, "check", taken, over);
     let mut out = vec![0; load.form.largest_network()];
     let (judge, cut, whole) = (load.judge_input(), load.cut_input(), load.whole_input());
+    let join = load.join_input();
     for (name, input, proved, call) in [
         ("judge", &judge, library::judge as Proved, JUDGE),
         ("census", &judge, library::census, CENSUS),
         ("cut", &cut, library::cut, CUT),
         ("whole", &whole, library::cut, CUT),
+        ("join", &join, library::join, JOIN),
     ] {
         let length = proved(input, &mut out);
         assert!(out[..length] == call.answer(input), "the answers differ");

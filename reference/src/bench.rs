@@ -1,9 +1,11 @@
 //! Timing the calls on the largest records, and writing those records down for others to time.
 
-use crate::call::{CENSUS, CUT, JUDGE, TRAIL};
+use crate::call::{CENSUS, CUT, JOIN, JUDGE, TRAIL};
 use crate::census;
 use crate::cut;
-use crate::form::{Form, ENTRIES_HEAD, MOST_EDGES, MOST_POLICIES, SHEET_LEAD, VERSION_1};
+use crate::form::{Form, ENTRIES_HEAD, FRAGMENT, MOST_EDGES, MOST_POLICIES};
+use crate::form::{SHEET_LEAD, VERSION_1};
+use crate::join;
 use crate::judge;
 use crate::known;
 use crate::plan::{list_record, sheet_record, Listed, Noted, Plan};
@@ -130,18 +132,35 @@ impl Load {
         [&self.network[..], &[0], &self.whole_sheet()].concat()
     }
 
+    /// The join's input: the two halves that the boxes make by turns, so that the ids of the one stand
+    /// between those of the other.
+    pub fn join_input(&self) -> Vec<u8> {
+        self.halves().concat()
+    }
+
+    fn halves(&self) -> [Vec<u8>; 2] {
+        let sheet = self.numbered(|row| (row % 2) as u8);
+        [0, 1].map(|half: u8| CUT.answer(&[&self.network[..], &[half], &sheet].concat()))
+    }
+
     fn whole_sheet(&self) -> Vec<u8> {
+        self.numbered(|_| 0)
+    }
+
+    /// The sheet with other fragment numbers.
+    fn numbered(&self, number: impl Fn(usize) -> u8) -> Vec<u8> {
         let mut sheet = self.sheet.clone();
-        for entry in sheet[ENTRIES_HEAD..].chunks_exact_mut(self.form.entry(SHEET_LEAD)) {
-            entry[2] = 0;
+        let entries = sheet[ENTRIES_HEAD..].chunks_exact_mut(self.form.entry(SHEET_LEAD));
+        for (row, entry) in entries.enumerate() {
+            entry[FRAGMENT] = number(row);
         }
         sheet
     }
 }
 
 /// Prints nanoseconds a call: the median and the lowest. `cut` cuts out fragment 0, `whole` has
-/// all boxes in it; the programs are timed over bytes, from input to output. A trail is short on
-/// most loads, so that of the longest one is timed on a load of its own.
+/// all boxes in it; `join` joins the two halves. The programs are timed over bytes, from input to
+/// output. A trail is short on most loads, so that of the longest one is timed on a load of its own.
 pub fn run() {
     println!("load       boxes  wires  call          median   lowest");
     for load in loads(VERSION_1).iter().chain([&longest_trail(VERSION_1)]) {
@@ -149,6 +168,7 @@ pub fn run() {
         let whole = load.whole_sheet();
         let (judge_input, cut_input) = (load.judge_input(), load.cut_input());
         let (trail_input, id) = (load.trail_input(), load.named);
+        let (join_input, [first, second]) = (load.join_input(), load.halves());
         let out = &mut vec![0; load.form.largest_network()];
         let show = |call: &str, (median, lowest): (u128, u128)| {
             let (name, boxes, wires) = (&load.name, load.boxes, load.wires);
@@ -172,6 +192,7 @@ pub fn run() {
             "whole",
             time(|| cut::cut(black_box(network), &whole, 0, out)),
         );
+        show("join", time(|| join::join(black_box(&first), &second, out)));
         show(
             "judge_bytes",
             time(|| JUDGE.answer(black_box(&judge_input))),
@@ -185,6 +206,7 @@ pub fn run() {
             time(|| TRAIL.answer(black_box(&trail_input))),
         );
         show("cut_bytes", time(|| CUT.answer(black_box(&cut_input))));
+        show("join_bytes", time(|| JOIN.answer(black_box(&join_input))));
     }
 }
 
@@ -219,6 +241,7 @@ pub fn write_inputs(directory: &Path) -> std::io::Result<()> {
         put("trail", &load.trail_input())?;
         put("cut", &load.cut_input())?;
         put("whole", &load.whole_input())?;
+        put("join", &load.join_input())?;
     }
     Ok(())
 }

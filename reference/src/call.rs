@@ -1,6 +1,6 @@
 //! The calls: what a stored case, a word of the command line and an example's file name stand for.
 
-use crate::form::{FORMS, LIST_LEAD, SHEET_LEAD};
+use crate::form::{Form, FORMS, LIST_LEAD, SHEET_LEAD};
 use crate::program;
 use crate::refusal::Refusal;
 
@@ -53,8 +53,23 @@ pub const TRAIL: &Call = &Call {
     run: program::trail_bytes,
 };
 
+pub const JOIN: &Call = &Call {
+    number: 5,
+    name: "join",
+    bound: Some(two_networks),
+    run: program::join_bytes,
+};
+
+/// Joining into a lent buffer, which is no program.
+pub const LENT_JOIN: &Call = &Call {
+    number: 6,
+    name: "lent-join",
+    bound: None,
+    run: program::lent_join_bytes,
+};
+
 /// All calls by rising number.
-pub const CALLS: [&Call; 5] = [JUDGE, CUT, LENT, CENSUS, TRAIL];
+pub const CALLS: [&Call; 7] = [JUDGE, CUT, LENT, CENSUS, TRAIL, JOIN, LENT_JOIN];
 
 impl Call {
     pub fn numbered(number: u8) -> Option<&'static Call> {
@@ -82,6 +97,15 @@ impl Call {
 
 /// The largest network and the largest record whose entries have this lead, together.
 fn two_records(lead: usize) -> usize {
-    let sizes = FORMS.map(|form| form.largest_network() + form.largest_entries(lead));
-    sizes.into_iter().max().expect("a form")
+    largest(|form| form.largest_network() + form.largest_entries(lead))
+}
+
+/// The largest network, twice.
+fn two_networks() -> usize {
+    largest(|form| 2 * form.largest_network())
+}
+
+/// The largest size of any form.
+fn largest(size: impl Fn(Form) -> usize) -> usize {
+    FORMS.into_iter().map(size).max().expect("a form")
 }

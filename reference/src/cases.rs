@@ -14,6 +14,7 @@ pub mod counted;
 pub mod examples;
 mod groups;
 pub mod inputs;
+pub mod joined;
 pub mod traced;
 
 const SEED: u64 = 0x6b69_7269_6761_6d69;
@@ -76,11 +77,11 @@ fn lay(stream: &mut Vec<u8>, bytes: &[u8]) {
     stream.extend(bytes);
 }
 
-/// What the answer says, without its places: "pass", "found 31", "refused 7", "trail" or "fragment".
-/// A fragment begins with a zero byte, since it is shorter than 2 to the 24, and a trail with an id.
+/// What the answer says, without its places: "pass", "found 31", "refused 7", "trail" or "network".
+/// A network begins with a zero byte, since it is shorter than 2 to the 24, and a trail with an id.
 fn kind_of(answer: &[u8]) -> String {
     match answer.first() {
-        Some(0) => return "fragment".to_string(),
+        Some(0) => return "network".to_string(),
         Some(byte) if byte.is_ascii_digit() => return "trail".to_string(),
         _ => {}
     }
@@ -98,13 +99,13 @@ impl fmt::Display for Stream {
     fn fmt(&self, out: &mut fmt::Formatter) -> fmt::Result {
         write!(out, "{:<10}", "answer")?;
         for call in CALLS {
-            write!(out, " {:>6}", call.name)?;
+            write!(out, " {:>9}", call.name)?;
         }
         let kinds: BTreeSet<&str> = self.cases.iter().map(|case| &case.kind[..]).collect();
         for kind in kinds {
             write!(out, "\n{kind:<10}")?;
             for call in CALLS {
-                write!(out, " {:>6}", self.given(kind, call))?;
+                write!(out, " {:>9}", self.given(kind, call))?;
             }
         }
         let bytes = self.inputs().len() + self.answers().len();

@@ -1,6 +1,7 @@
 //! Cutting: laying down the network of one fragment.
 
 use crate::form::{EDGE, KIND, MOST, ROUTE};
+use crate::lay::put;
 use crate::record::{Cut, Network, Node, Table};
 use crate::refusal::{refuse, Refusal};
 use crate::route;
@@ -111,13 +112,6 @@ fn check_notes(cut: &Cut, marks: &Marks) -> Result<(), Refusal> {
 /// The row of an edge's end.
 fn end(id: u16, table: &Table) -> usize {
     table.row(id).expect("both ends of an edge exist")
-}
-
-/// Lays bytes at the front of what remains and gives back the rest.
-fn put<'a>(out: &'a mut [u8], bytes: &[u8]) -> &'a mut [u8] {
-    let (here, rest) = out.split_at_mut(bytes.len());
-    here.copy_from_slice(bytes);
-    rest
 }
 
 fn put_nodes<'a>(mut out: &'a mut [u8], cut: &Cut, marks: &Marks) -> &'a mut [u8] {

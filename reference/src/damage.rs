@@ -58,6 +58,12 @@ pub const ALL: [(&str, Damage); 40] = [
     ("promise other than the note", network::promise),
 ];
 
+/// The damages that look at a network alone: those before the first to a second record.
+pub fn to_networks() -> Vec<(&'static str, Damage)> {
+    let alone = |(name, _): &(&str, Damage)| !name.starts_with("second");
+    ALL.into_iter().take_while(alone).collect()
+}
+
 /// Damages to the id that names a box. They stand apart, since only some calls have one.
 pub const NAMING: [(&str, Damage); 3] = [
     ("id of nobody", naming::nobody),

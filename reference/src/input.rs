@@ -1,6 +1,6 @@
 //! Inputs by their parts.
 
-use crate::call::{Call, CENSUS, CUT, JUDGE, TRAIL};
+use crate::call::{Call, CENSUS, CUT, JOIN, JUDGE, TRAIL};
 use crate::form::{Form, LIST_LEAD, SHEET_LEAD};
 use crate::plan::{list_record, sheet_record, Listed, Noted, Plan};
 
@@ -15,7 +15,7 @@ pub struct Input {
     /// that names a box.
     pub between: Vec<u8>,
     pub second: Vec<u8>,
-    /// Bytes of the second record's entries before their route.
+    /// Bytes of the second record's entries before their route; 0 where it is a network.
     pub lead: usize,
 }
 
@@ -60,6 +60,17 @@ impl Input {
             between: vec![asked],
             second: sheet_record(plan.form, sheet),
             lead: SHEET_LEAD,
+        }
+    }
+
+    pub fn join(first: &Plan, second: &Plan) -> Input {
+        Input {
+            call: JOIN,
+            form: first.form,
+            network: first.record(),
+            between: vec![],
+            second: second.record(),
+            lead: 0,
         }
     }
 

@@ -1,8 +1,8 @@
-//! Plans by name: those that the bench examples speak of, and those that trails are tried on.
+//! Plans by name: those that the bench examples speak of, and those that trails and joins are tried on.
 
 use crate::form::{Form, MOST_EDGES, MOST_POLICIES};
 use crate::plan::{Listed, Node, Noted, Plan};
-use crate::route::{Demand, Policy, Route, TOP};
+use crate::route::{Demand, Policy, Promise, Route, TOP};
 use crate::settle;
 use crate::shapes;
 
@@ -40,6 +40,39 @@ pub fn chain_sheet() -> Vec<Noted> {
     (0..3)
         .map(|cost| (cost + 1, u8::from(cost == 2), chain_route(cost)))
         .collect()
+}
+
+/// The two parts that this makes of the chain. Boxes 2 and 3 promise their notes, and each part assumes
+/// the other's.
+pub fn chain_parts() -> [Plan; 2] {
+    let [one, two, three] = [0, 1, 2].map(|row| chain().nodes[row].clone());
+    let promising = |node: Node, cost| Node {
+        promise: Promise::Holds(chain_route(cost)),
+        ..node
+    };
+    let mut first = Plan {
+        policies: chain().policies,
+        nodes: vec![one, promising(two, 1), Node::input(3, chain_route(2))],
+        ..Plan::default()
+    };
+    for (from, to) in [(2, 1), (1, 2), (3, 2)] {
+        first.wire(from, to, 0);
+    }
+    let mut second = Plan {
+        policies: chain().policies,
+        nodes: vec![Node::input(2, chain_route(1)), promising(three, 2)],
+        ..Plan::default()
+    };
+    second.wire(2, 3, 0);
+    [first, second]
+}
+
+/// Gives each of these parts an input with this id, and the routes that they assume of it.
+pub fn feed(parts: &mut [Plan; 2], id: u16, assumed: [Option<Route>; 2]) {
+    for ((part, route), to) in parts.iter_mut().zip(assumed).zip([1, 3]) {
+        part.nodes.push(Node::input(id, route));
+        part.wire(id, to, 0);
+    }
 }
 
 /// The route of the plans' start at this cost.

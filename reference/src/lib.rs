@@ -1,13 +1,15 @@
 //! An independent reading of the rules for route plans: check a record, judge a list, count what a
-//! pass carried, follow a route back to its start, cut out a fragment, and the calls over bytes.
-//! The rest makes inputs: for tests, for stored cases and for timing.
+//! pass carried, follow a route back to its start, cut out a fragment, join two networks, and the
+//! calls over bytes. The rest makes inputs: for tests, for stored cases and for timing.
 #![forbid(unsafe_code)]
 
 pub mod call;
 pub mod census;
 pub mod cut;
 pub mod form;
+pub mod join;
 pub mod judge;
+mod lay;
 pub mod program;
 pub mod record;
 pub mod refusal;

@@ -2,7 +2,7 @@
 //! that deserve a refusal can be laid down too.
 
 use crate::form::{Form, LIST_LEAD, SHEET_LEAD};
-use crate::record::Edge;
+use crate::record::{self, Edge, Network};
 use crate::route::{self, Demand, Policy, Promise, Route};
 
 #[derive(Clone, Debug)]
@@ -48,6 +48,23 @@ pub type Listed = (u16, Option<Route>);
 pub type Noted = (u16, u8, Option<Route>);
 
 impl Plan {
+    /// The plan that a sound network is the record of.
+    pub fn read(network: &Network) -> Plan {
+        let node = |node: record::Node| Node {
+            id: node.id(),
+            own: node.is_own(),
+            route: node.route(),
+            promise: node.promise(),
+            demand: node.demand(),
+        };
+        Plan {
+            form: network.form,
+            policies: network.policies().collect(),
+            nodes: network.nodes().map(node).collect(),
+            edges: network.edges().collect(),
+        }
+    }
+
     /// The same plan in another form.
     pub fn of(self, form: Form) -> Plan {
         Plan { form, ..self }

@@ -2,6 +2,7 @@
 
 use crate::census::{self, Census};
 use crate::cut;
+use crate::join;
 use crate::judge::{self, Verdict};
 use crate::refusal::Refusal;
 use crate::route::{Route, TOP};
@@ -58,8 +59,13 @@ fn cut_parts(network: &[u8], rest: &[u8], room: usize) -> Vec<u8> {
         [] => (0, rest),
         [asked, sheet @ ..] => (*asked, sheet),
     };
+    record_or_line(room, |out| cut::cut(network, sheet, asked, out))
+}
+
+/// The record that is written into a buffer of this length, or a line.
+fn record_or_line(room: usize, write: impl FnOnce(&mut [u8]) -> Result<usize, Refusal>) -> Vec<u8> {
     let mut out = vec![0; room];
-    match cut::cut(network, sheet, asked, &mut out) {
+    match write(&mut out) {
         Ok(length) => {
             out.truncate(length);
             out
@@ -69,16 +75,38 @@ fn cut_parts(network: &[u8], rest: &[u8], room: usize) -> Vec<u8> {
 }
 
 /// Cutting out of records that are handed over apart, into a buffer of a given length: the
-/// numbers 5 and 20, which the program has no use for, can be met here. Two bytes say how long the
-/// buffer is, two how long the network is; then comes the cutter's input.
+/// numbers 5 and 20, which the program has no use for, can be met here.
 pub fn lent_bytes(input: &[u8]) -> Vec<u8> {
-    let Some((&[r1, r0, n1, n0], plan)) = input.split_first_chunk() else {
-        return Vec::new();
-    };
+    match split_lent(input) {
+        Some((room, network, rest)) => cut_parts(network, rest, room),
+        None => Vec::new(),
+    }
+}
+
+/// How long the lent buffer is, the network, and what follows it. Two bytes say how long the buffer
+/// is, two how long the network is; then comes the program's input.
+fn split_lent(input: &[u8]) -> Option<(usize, &[u8], &[u8])> {
+    let (&[r1, r0, n1, n0], plan) = input.split_first_chunk()?;
     let room = usize::from(u16::from_be_bytes([r1, r0]));
     let length = usize::from(u16::from_be_bytes([n1, n0])).min(plan.len());
     let (network, rest) = plan.split_at(length);
-    cut_parts(network, rest, room)
+    Some((room, network, rest))
+}
+
+/// The join: a network and then another; the two as one back, or a line.
+pub fn join_bytes(input: &[u8]) -> Vec<u8> {
+    let (first, second) = split(input);
+    // The joint network is never larger than the two together.
+    record_or_line(input.len(), |out| join::join(first, second, out))
+}
+
+/// Joining records that are handed over apart, into a buffer of a given length: the number 5 of the
+/// first network can be met here, and 20.
+pub fn lent_join_bytes(input: &[u8]) -> Vec<u8> {
+    match split_lent(input) {
+        Some((room, first, second)) => record_or_line(room, |out| join::join(first, second, out)),
+        None => Vec::new(),
+    }
 }
 
 /// Parts the network from what follows. Where the length field is missing or points past the

@@ -13,7 +13,8 @@ mod pair;
 mod view;
 
 pub use pair::{Cut, Pair, Proposal};
-use view::{number_at, part_at, rows};
+pub(crate) use view::number_at;
+use view::{part_at, rows};
 pub use view::{Edge, Entries, Network, Node, Table};
 
 /// Reads a network and fills the table, or gives the first of the refusals 1 to 10.

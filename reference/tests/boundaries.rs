@@ -3,7 +3,7 @@
 mod shared;
 
 use reference::bench::{self, Load};
-use reference::call::{CUT, JUDGE, TRAIL};
+use reference::call::{CUT, JOIN, JUDGE, TRAIL};
 use reference::form::{Form, FORMS, LIST_LEAD, SHEET_LEAD, VERSION_1};
 use reference::known;
 use reference::plan::{self, Node, Plan};
@@ -40,7 +40,7 @@ fn sizes_of_document_01() {
     let [list, sheet] = [LIST_LEAD, SHEET_LEAD].map(|lead| form.largest_entries(lead));
     assert_eq!((list, sheet), (5_639, 6_151));
     assert_eq!((JUDGE.bound(), CUT.bound()), (Some(40_785), Some(41_298)));
-    assert_eq!(TRAIL.bound(), Some(40_787));
+    assert_eq!((TRAIL.bound(), JOIN.bound()), (Some(40_787), Some(70_292)));
 }
 
 /// A route is read as its first eight bytes and its last eight.
@@ -111,7 +111,7 @@ fn inputs_of_the_most_bytes_and_of_one_more() {
 
 #[test]
 fn over_size_comes_before_all_else() {
-    for call in [JUDGE, CUT, TRAIL] {
+    for call in [JUDGE, CUT, TRAIL, JOIN] {
         let bound = call.bound().expect("a program's bound");
         let zeros = |length| line(&call.answer(&vec![0; length]));
         assert_eq!(zeros(bound), "refused 1 4");
@@ -137,6 +137,7 @@ fn next_to_no_input() {
         assert_eq!(line(&judge_bytes(&input)), answer);
         assert_eq!(line(&cut_bytes(&input)), answer);
         assert_eq!(line(&TRAIL.answer(&input)), answer);
+        assert_eq!(line(&JOIN.answer(&input)), answer);
     }
 }
 
@@ -199,5 +200,7 @@ fn the_timed_records_are_the_largest_and_pass() {
         let fragment = cut_bytes(&load.cut_input());
         assert_eq!(check_network(&fragment), Ok(()), "{}", load.name);
         assert_eq!(cut_bytes(&load.whole_input()), load.network);
+        let joint = JOIN.answer(&load.join_input());
+        assert_eq!(joint.len(), load.network.len(), "{}", load.name);
     }
 }

@@ -1,6 +1,6 @@
 //! The stored cases: enough of each kind, not too many bytes, and always the same.
 
-use reference::call::{Call, CALLS, CENSUS, CUT, JUDGE, LENT, TRAIL};
+use reference::call::{Call, CALLS, CENSUS, CUT, JOIN, JUDGE, LENT, LENT_JOIN, TRAIL};
 use reference::cases;
 use reference::damage::{ALL, NAMING};
 use reference::form::{Form, FORMS};
@@ -15,13 +15,13 @@ use std::path::Path;
 fn enough_of_each_kind() {
     let stream = cases::make();
     assert!(stream.cases.len() >= 4_000);
-    assert!(stream.inputs().len() + stream.answers().len() < 5_000_000);
+    assert!(stream.inputs().len() + stream.answers().len() < 5_400_000);
     let given = |kind: &str, call: &Call| stream.given(kind, call);
     for kind in ["pass", "found 31", "found 32", "found 33"] {
         assert!(given(kind, JUDGE) >= 200, "{kind}");
     }
-    assert!(given("fragment", CUT) >= 500);
-    for (kind, least) in [("fragment", 50), ("refused  5", 20), ("refused 20", 50)] {
+    assert!(given("network", CUT) >= 500);
+    for (kind, least) in [("network", 50), ("refused  5", 20), ("refused 20", 50)] {
         assert!(given(kind, LENT) >= least, "{kind}");
     }
     for number in 1..=19 {
@@ -88,6 +88,23 @@ fn enough_of_each_kind_for_the_trail() {
     for (boxes, least) in [(1, 100), (2, 80), (3, 30), (4, 10), (5, 5), (512, 1)] {
         let long = trails.iter().filter(|text| text.lines().count() == boxes);
         assert!(long.count() >= least, "{boxes} boxes");
+    }
+}
+
+#[test]
+fn enough_of_each_kind_for_the_join() {
+    let stream = cases::make();
+    let given = |kind: &str, call: &Call| stream.given(kind, call);
+    assert!(given("network", JOIN) >= 150);
+    for number in (1..=10).chain(21..=24) {
+        let kind = format!("refused {number:>2}");
+        let least = if number > 20 { 4 } else { 2 };
+        assert!(given(&kind, JOIN) >= least, "{kind}");
+    }
+    assert!(given("refused 21", JOIN) >= 30 && given("refused 22", JOIN) >= 50);
+    assert!(given("refused 23", JOIN) >= 30);
+    for (kind, least) in [("network", 30), ("refused  5", 5), ("refused 20", 30)] {
+        assert!(given(kind, LENT_JOIN) >= least, "{kind}");
     }
 }
 

@@ -4,7 +4,6 @@
 // Standard input has the chain's network and the sheet that cuts it 1, 2 | 3.
 ghost use Prim.Native.Nat.{_≤_};
 ghost use lib.ListN.{length};
-use cutting::CutAnswer;
 use cutting::cut;
 use layout::number_of;
 use libc::STDOUT_FILENO;
@@ -12,6 +11,7 @@ use numbers::u16_at;
 use numbers::u32_at;
 use numbers::wide;
 use numbers::wide16;
+use outcomes::Outcome;
 use streams::Input;
 use streams::read_input;
 
@@ -27,8 +27,8 @@ fn say(text: &[u8], n: usize) {
 fn say_cut(text: &[u8], network: &[u8], sheet: &[u8], k: u8, out: &mut [u8]) {
     io::write_all(STDOUT_FILENO, text);
     match cut(network, sheet, k, out) {
-        CutAnswer::Done(length) => say(b" bytes", length),
-        CutAnswer::Refused(refusal) => {
+        Outcome::Done(length) => say(b" bytes", length),
+        Outcome::Refused(refusal) => {
             let class = refusal.class;
             say(b" refused", wide(number_of(class)));
             say(b"  place", refusal.place);

@@ -1,5 +1,5 @@
 -- The cutter's answers, refusal by refusal.
---     rooms                 20, or the length
+--     record-roomed                          20, or the length
 --     cutting-17, cutting-18, cutting-19     the others
 use Prim.Native.Nat.{ℕ, _≤_, _<_}
 use native.Mathlib.Omega.{arith}
@@ -15,7 +15,7 @@ use Rattle.layout.specs.Form.{sheetLead, nodeWidth}
 use Rattle.layout.specs.Layout.{Room, nodeCount, nodePart, nodeOffset}
 use Rattle.records.proofs.EnteredLaws.{entry-rows}
 use Rattle.marking.specs.Tables.{withFragment, boxIn, ownMeets, unclashed, Numbered, RowTables, outside}
-use borrow.Author.Tests.{eq-eqb, ne-eqb, lt-ltb, le-ltb, le-leb, lt-leb}
+use borrow.Author.Tests.{eq-eqb, ne-eqb, lt-ltb, le-ltb}
 use Rattle.lists.specs.All.{any}
 use Rattle.lists.specs.Filter.{holds}
 use Rattle.lists.proofs.Filter.{any-filterMap}
@@ -41,22 +41,17 @@ use Rattle.reading.specs.Parts.{boxAt}
 use Rattle.reading.specs.Whole.{HouseNetwork, HouseSheet, readNetwork, readSheet, writeNetwork}
 use Rattle.reading.proofs.Lowest.{passed, lowest-rows}
 use Rattle.reading.proofs.Said.{box-id-at}
-use Rattle.cutting.specs.Cutting.{cutSaid, roomFor, recordAnswer, laidAnswer}
+use Rattle.outcomes.specs.Room.{inRoom, recordAnswer, laidAnswer}
+use Rattle.cutting.specs.Cutting.{cutSaid}
 use Rattle.laying.specs.Pieces.{fragmentIn}
 use Rattle.cutting.specs.Stages.{AllEntered, Asked}
 use Rattle.records.specs.Checked.{CheckedNetwork, CheckedEntries}
 use Rattle.routes.specs.Carry.{highest}
 use Rattle.marking.proofs.FragmentLaws.{outside-is, entered-is, fragments-numbered}
 
--- the length of a record against the room for it
-module _ (room size : ℕ) (w : List ℕ) (s : size ≡ length w) where
-  pub room-short : room < size → refused 20 size ≡ roomFor room w
-  room-short h = rw (← s, lt-leb size room h)
-
-  pub room-enough : size ≤ room → given size ≡ roomFor room w
-  room-enough h = rw (← s, le-leb size room h)
-
-pub ruleset rooms = (room-short, room-enough)
+-- the record's length, with what the room for it answers
+pub record-roomed : (room size : ℕ) (w : List ℕ) (a : Answer ℕ) → size ≡ length w → a ≡ inRoom room size → a ≡ inRoom room (length w)
+record-roomed room size w a e h = rw (← e) h
 
 -- the lowest own box that meets a test, by its row
 module _ (f : Form) (network : List ℕ) (test : Own Route Demand → Bool) where
@@ -182,7 +177,7 @@ module _ (f : Form) (network sheet : List ℕ) (k : ℕ) where
         unfolding cutSaid cut fragmentIn AllEntered Asked
         said-cut = rw (h, a, clash-is, ← at-clash, le-ltb clash (nodeCount network) (omega arith))
 
-        pub answer-cut : (room : ℕ) (r : Answer ℕ) → r ≡ roomFor room (writeNetwork f (fragmentIn f network sheet k)) → r ≡ recordAnswer f room (cutSaid f network sheet k)
+        pub answer-cut : (room : ℕ) (r : Answer ℕ) → r ≡ inRoom room (length (writeNetwork f (fragmentIn f network sheet k))) → r ≡ recordAnswer f room (cutSaid f network sheet k)
         answer-cut room r p = rw said-cut p
 
         pub buffer-cut : (out out′ : List ℕ) → out′ ≡ placed (writeNetwork f (fragmentIn f network sheet k)) out → out′ ≡ laidAnswer f (cutSaid f network sheet k) out

@@ -18,7 +18,8 @@ use Rattle.layout.specs.declared.Check.{Check}
 use Rattle.layout.specs.declared.Check.the-variants.{Fine, Refused}
 use Rattle.layout.specs.declared.Form.{Form}
 use Rattle.layout.specs.declared.Refusal.{Refusal}
-use Rattle.cutting.specs.Cutting.{cutSaid, cutNetwork, recordAnswer, laidAnswer, cutRecords, cutBuffer}
+use Rattle.outcomes.specs.Room.{recordAnswer, laidAnswer}
+use Rattle.cutting.specs.Cutting.{cutSaid, cutNetwork, cutRecords, cutBuffer}
 use Rattle.laying.specs.Pieces.{PieceTables}
 use Rattle.marking.specs.Marks.{reaches}
 use Rattle.marking.specs.Pieces.{keeps, withPiece}

@@ -1,9 +1,7 @@
 -- The refusals and the answer of the cutter as the code goes, and what the program writes.
 pub mod AnswerLaws
 pub mod CheckLaws
-pub mod RefusalLaws
 pub mod TextLaws
 pub mod Starts
--- The cutter's answer by its numbers; the theorems about networks, on bytes.
-pub mod Answers
+-- The theorems about networks, on bytes.
 pub mod OnBytes

@@ -5,25 +5,21 @@
 --     record-shorter, record-largest  its record is no longer than the network's, and than the largest
 --     one-record                      all own boxes in one fragment: the record is the network's own bytes
 --     cut-laid, cut-short, cut-kept   the buffer with room, without, and on every refusal
---     room-refuses, cut-refuses       a refusal: the network's, else the sheet's, else 17, 18 or 19, else 20
-use mathlib.Core.Path.{_≡_, refl, sym, ap, _∙_}
-use mathlib.Core.Bool.{Bool, true, false, cond}
+--     cut-refuses                     a refusal: the network's, else the sheet's, else 17, 18 or 19, else 20
+use mathlib.Core.Path.{_≡_, ap, _∙_}
+use mathlib.Core.Bool.{true}
 use mathlib.Core.List.{List, _++_}
 use mathlib.Core.Logic.{_⊎_, inl, inr, ⊎-elim}
 use mathlib.Core.Option.{none}
 use Prim.Native.Nat.{ℕ, _≤_, _<_}
 use native.Mathlib.Nat.{mul-le-mul-right}
 use native.Mathlib.Omega.{arith}
-use lib.Dec.{leb}
 use lib.ListN.{length, drop}
-use borrow.Author.Tests.{le-leb, lt-leb, leb-false}
 use Rattle.lists.specs.All.{All}
 use Rattle.lists.specs.Bytes.{Bytes}
-use Rattle.lists.specs.Laid.{over}
-use Rattle.lists.proofs.Laid.{placed-fits, placed-short}
 use Rattle.routes.specs.declared.Demand.{Demand}
 use Rattle.routes.specs.declared.Route.{Route}
-use Rattle.lists.specs.Answer.{Answer, given, refused}
+use Rattle.lists.specs.Answer.{given, refused}
 use Rattle.networks.specs.Lowest.{LowestOwn, Entered}
 use Rattle.networks.specs.Cut.{only, fragment, Clashes, cut}
 use Rattle.reading.specs.House.{house}
@@ -31,7 +27,7 @@ use Rattle.networks.specs.Network.{Own, ownBoxes, owns}
 use Rattle.networks.specs.Sheets.{number, note}
 use Rattle.networks.specs.Sound.{Sound, NoMore}
 use Rattle.networks.proofs.FragmentSound as sound
-use Rattle.lists.proofs.Answer.{refused-given, then-given, then-refused}
+use Rattle.lists.proofs.Answer.{then-given, then-refused}
 use Rattle.networks.proofs.OneFragment.{one-fragment}
 use Rattle.networks.proofs.Refusals as refusals
 use Rattle.entries.specs.Entries.{sheetRefusal, WellFormed}
@@ -45,7 +41,8 @@ use Rattle.reading.proofs.Lengths.{network-length, within-largest}
 use Rattle.reading.proofs.Fits.{network-fits, sheet-fits, fragment-fits}
 use Rattle.reading.proofs.NetworkBytes.{NetworkFits}
 use Rattle.routes.specs.Carry.{highest}
-use Rattle.cutting.specs.Cutting.{cutNetwork, recordAnswer, laidAnswer, cutRecords, cutBuffer}
+use Rattle.outcomes.proofs.RoomLaws.{record-laid, record-unlaid, refusal-keeps}
+use Rattle.cutting.specs.Cutting.{cutNetwork, cutRecords, cutBuffer}
 use Rattle.layout.specs.declared.Form.{Form}
 use Rattle.layout.proofs.OneForm.{form-usable, form-known}
 use Rattle.records.proofs.Checked.{given-network, given-entries}
@@ -136,39 +133,16 @@ module _ (network sheet : List ℕ) (k : ℕ) where
 
       pub cut-laid : length W ≤ length out
           → (cutRecords network sheet k (length out) ≡ given (length W)) × (cutBuffer network sheet k out ≡ W ++ drop (length W) out)
-      unfolding cutRecords cutBuffer over
-      cut-laid room = (rw (e, le-leb (length W) (length out) room) refl, ap (λ (a : Answer HouseNetwork). laidAnswer f a out) e ∙ sym (placed-fits W out (over W out) room refl))
+      unfolding cutRecords cutBuffer
+      cut-laid = record-laid f (cutNetwork network sheet k) out F e
 
       pub cut-short : length out < length W → (cutRecords network sheet k (length out) ≡ refused 20 (length W)) × (cutBuffer network sheet k out ≡ out)
       unfolding cutRecords cutBuffer
-      cut-short room = (rw (e, lt-leb (length W) (length out) room) refl, ap (λ (a : Answer HouseNetwork). laidAnswer f a out) e ∙ sym (placed-short W out out room refl))
+      cut-short = record-unlaid f (cutNetwork network sheet k) out F e
 
-  -- what is refused of the records is refused whatever the room; what is given is refused where there is no room for it
-  pub room-refuses : (room at place : ℕ) → cutRecords network sheet k room ≡ refused at place
-      → (cutNetwork network sheet k ≡ refused at place)
-      ⊎ ((F : HouseNetwork) × (cutNetwork network sheet k ≡ given F) × (at ≡ 20) × (place ≡ length (writeNetwork f F)) × (room < length (writeNetwork f F)))
-  unfolding cutRecords
-  room-refuses room at place = go (cutNetwork network sheet k) refl
-    where
-      short : (F : HouseNetwork) (t : Bool) → leb (length (writeNetwork f F)) room ≡ t
-          → cond t (given (length (writeNetwork f F))) (refused 20 (length (writeNetwork f F))) ≡ refused at place
-          → (at ≡ 20) × (place ≡ length (writeNetwork f F)) × (room < length (writeNetwork f F))
-      short F true q e = absurd (refused-given (sym e))
-      short F false q e = (cc, cc, leb-false (length (writeNetwork f F)) room q)
-
-      go : (a : Answer HouseNetwork) → cutNetwork network sheet k ≡ a → recordAnswer f room a ≡ refused at place
-          → (cutNetwork network sheet k ≡ refused at place)
-          ⊎ ((F : HouseNetwork) × (cutNetwork network sheet k ≡ given F) × (at ≡ 20) × (place ≡ length (writeNetwork f F)) × (room < length (writeNetwork f F)))
-      go (given F) q e = let s = short F (leb (length (writeNetwork f F)) room) refl e in inr (F, q, s .0, s .1, s .2)
-      go (refused m p) q e =
-          let number : m ≡ at = cc in
-          let there : p ≡ place = cc in
-          inl (rw (q, number, there) refl)
-
-  pub cut-kept : (out : List ℕ) (at place : ℕ) → cutRecords network sheet k (length out) ≡ refused at place → cutBuffer network sheet k out ≡ out
-  unfolding cutBuffer
-  cut-kept out at place e = ⊎-elim (λ r. ap (λ (a : Answer HouseNetwork). laidAnswer f a out) r) (λ s. (cut-short out (s .0) (s .1) (s .4)) .1)
-      (room-refuses (length out) at place e)
+    pub cut-kept : (at place : ℕ) → cutRecords network sheet k (length out) ≡ refused at place → cutBuffer network sheet k out ≡ out
+    unfolding cutRecords cutBuffer
+    cut-kept = refusal-keeps f (cutNetwork network sheet k) out
 
   pub cut-refuses : Bytes network → (at place : ℕ) → cutNetwork network sheet k ≡ refused at place
       → (networkRefusal network ≡ refused at place)

@@ -2,20 +2,12 @@
 use Prim.Native.Nat.{ℕ, _+_}
 use mathlib.Core.List.{List}
 use lib.ListN.{getD, drop}
-use Rattle.lists.specs.Answer.{Answer, given, refused}
 use Rattle.layout.specs.Form.{widest, formOf, sheetLead}
 use Rattle.reading.specs.Largest.{largestNetwork, largestEntries}
-use Rattle.reading.specs.Whole.{HouseNetwork, writeNetwork}
 use Rattle.lines.specs.Split.{firstRecord, restOf}
-use Rattle.lines.specs.Line.{refusedLine}
 use Rattle.lines.specs.Bound.{withinBound}
-use Rattle.layout.specs.declared.Form.{Form}
+use Rattle.outcomes.specs.Text.{recordOutput}
 use Rattle.cutting.specs.Cutting.{cutNetwork}
-
--- The fragment's record, or `refused NUMBER PLACE`. The program has room for every record, so that 20 is no answer of its own.
-unfoldable pub cutOutput : Form → Answer HouseNetwork → List ℕ
-cutOutput f (given fragment) = writeNetwork f fragment
-cutOutput f (refused number place) = refusedLine number place
 
 -- the fragment asked: the first byte of the rest, or 0
 abbrev pub askedOf : List ℕ → ℕ
@@ -32,4 +24,4 @@ cutBound = largestNetwork widest + 1 + largestEntries widest sheetLead
 -- The first record is the network, and the rest is the fragment asked and the sheet.
 unfoldable pub cutText : List ℕ → List ℕ
 cutText input = withinBound cutBound input
-    (cutOutput (formOf (firstRecord input)) (cutNetwork (firstRecord input) (behindAsked (restOf input)) (askedOf (restOf input))))
+    (recordOutput (formOf (firstRecord input)) (cutNetwork (firstRecord input) (behindAsked (restOf input)) (askedOf (restOf input))))

@@ -6,15 +6,15 @@ ghost use Rattle.lists.specs.Laid.{placed};
 ghost use Rattle.layout.specs.Layout.{edgeCount};
 ghost use Rattle.records.specs.Rows.{Filled};
 ghost use Rattle.reading.specs.Whole.{writeNetwork};
-ghost use Rattle.cutting.specs.Answers.{answerOf};
-ghost use Rattle.cutting.specs.Cutting.{cutSaid, roomFor, recordAnswer, laidAnswer, cutRecords, cutBuffer};
+ghost use Rattle.outcomes.specs.Outcomes.{outcomeOf};
+ghost use Rattle.outcomes.specs.Room.{inRoom, recordAnswer, laidAnswer};
+ghost use Rattle.cutting.specs.Cutting.{cutSaid, cutRecords, cutBuffer};
 ghost use Rattle.cutting.specs.Stages.{AllEntered, Asked};
 ghost use Rattle.laying.specs.Pieces.{fragmentIn};
 ghost use Rattle.marking.specs.Marks.{reaches, Leaving, Feeding};
 ghost use Rattle.records.specs.Checked.{CheckedRows, CheckedEntries};
 ghost use Rattle.layout.specs.Form.{sheetLead};
 ghost use Rattle.marking.specs.Tables.{RowTables};
-use crate::CutAnswer;
 use entries::check_sheet;
 use laying::lay;
 use layout::Check;
@@ -33,6 +33,8 @@ use marking::number_rows;
 use nodes::refused_at;
 use numbers::u16_at;
 use numbers::wide;
+use outcomes::Outcome;
+use outcomes::laid_in;
 use records::check_network_rows;
 use records::place_entries;
 
@@ -49,11 +51,11 @@ fn cut_agreed(
     k: u8,
     edges: usize,
     out: &mut [u8],
-) -> CutAnswer
+) -> Outcome
     requires { ⌜ RowTables form (now network) (now sheet) (now found) (now fragments) × Filled form (now network) (now rows) ⌝ }
     requires { ⌜ edges ≡ count (reaches form (now network) (now fragments) k) (edgeCount (now network)) ⌝ }
     requires { ⌜ Leaving form (now network) (now sheet) (now leaves) × Feeding form (now network) (now sheet) k (now feeds) ⌝ }
-    ensures answer { λ r. ⌜ answerOf r ≡ roomFor (length (now (out .entry))) (writeNetwork form (fragmentIn form (now (network .entry)) (now (sheet .entry)) k)) ⌝ }
+    ensures answer { λ r. ⌜ outcomeOf r ≡ inRoom (length (now (out .entry))) (length (writeNetwork form (fragmentIn form (now (network .entry)) (now (sheet .entry)) k))) ⌝ }
     ensures buffer { λ _. ⌜ now (out .exit) ≡ placed (writeNetwork form (fragmentIn form (now (network .entry)) (now (sheet .entry)) k)) (now (out .entry)) ⌝ }
 {
     let n = u16_at(network, NODES_FIELD) as usize;
@@ -84,13 +86,7 @@ fn cut_agreed(
         edges,
         out,
     );
-    if room < size {
-        return CutAnswer::Refused(Refusal {
-            class: Class::NoRoom,
-            place: size,
-        });
-    }
-    CutAnswer::Done(size)
+    laid_in(room, size)
 }
 
 // Numbers 19 and 20, or the record.
@@ -103,9 +99,9 @@ fn cut_asked(
     fragments: &[u8; ROWS],
     k: u8,
     out: &mut [u8],
-) -> CutAnswer
+) -> Outcome
     requires { ⌜ RowTables form (now network) (now sheet) (now found) (now fragments) × Filled form (now network) (now rows) × AllEntered form (now network) (now sheet) × Asked form (now network) (now sheet) k ⌝ }
-    ensures answer { λ r. ⌜ answerOf r ≡ recordAnswer form (length (now (out .entry))) (cutSaid form (now (network .entry)) (now (sheet .entry)) k) ⌝ }
+    ensures answer { λ r. ⌜ outcomeOf r ≡ recordAnswer form (length (now (out .entry))) (cutSaid form (now (network .entry)) (now (sheet .entry)) k) ⌝ }
     ensures buffer { λ _. ⌜ now (out .exit) ≡ laidAnswer form (cutSaid form (now (network .entry)) (now (sheet .entry)) k) (now (out .entry)) ⌝ }
 {
     let n = u16_at(network, NODES_FIELD) as usize;
@@ -124,7 +120,7 @@ fn cut_asked(
     );
     let clash = first_clash(form, network, sheet, found, &leaves, n);
     if clash < n {
-        return CutAnswer::Refused(refused_at(Class::NoteDiffers, form, network, clash));
+        return Outcome::Refused(refused_at(Class::NoteDiffers, form, network, clash));
     }
     cut_agreed(
         form,
@@ -151,14 +147,14 @@ fn cut_entered(
     fragments: &[u8; ROWS],
     k: u8,
     out: &mut [u8],
-) -> CutAnswer
+) -> Outcome
     requires { ⌜ RowTables form (now network) (now sheet) (now found) (now fragments) × Filled form (now network) (now rows) × AllEntered form (now network) (now sheet) ⌝ }
-    ensures answer { λ r. ⌜ answerOf r ≡ recordAnswer form (length (now (out .entry))) (cutSaid form (now (network .entry)) (now (sheet .entry)) k) ⌝ }
+    ensures answer { λ r. ⌜ outcomeOf r ≡ recordAnswer form (length (now (out .entry))) (cutSaid form (now (network .entry)) (now (sheet .entry)) k) ⌝ }
     ensures buffer { λ _. ⌜ now (out .exit) ≡ laidAnswer form (cutSaid form (now (network .entry)) (now (sheet .entry)) k) (now (out .entry)) ⌝ }
 {
     let n = u16_at(network, NODES_FIELD) as usize;
     if first_inside(form, network, fragments, k, n) == n {
-        return CutAnswer::Refused(Refusal {
+        return Outcome::Refused(Refusal {
             class: Class::NoSuchOwn,
             place: wide(k),
         });
@@ -174,16 +170,16 @@ fn cut_checked(
     rows: &[u16; 65536],
     k: u8,
     out: &mut [u8],
-) -> CutAnswer
+) -> Outcome
     requires { ⌜ CheckedRows form (now network) (now rows) × CheckedEntries form sheetLead (now sheet) ⌝ }
-    ensures answer { λ r. ⌜ answerOf r ≡ recordAnswer form (length (now (out .entry))) (cutSaid form (now (network .entry)) (now (sheet .entry)) k) ⌝ }
+    ensures answer { λ r. ⌜ outcomeOf r ≡ recordAnswer form (length (now (out .entry))) (cutSaid form (now (network .entry)) (now (sheet .entry)) k) ⌝ }
     ensures buffer { λ _. ⌜ now (out .exit) ≡ laidAnswer form (cutSaid form (now (network .entry)) (now (sheet .entry)) k) (now (out .entry)) ⌝ }
 {
     let n = u16_at(network, NODES_FIELD) as usize;
     let mut found = [0u16; ROWS];
     let missing = place_entries(form, SHEET_LEAD, network, sheet, &mut found);
     if missing < n {
-        return CutAnswer::Refused(refused_at(Class::NoEntry, form, network, missing));
+        return Outcome::Refused(refused_at(Class::NoEntry, form, network, missing));
     }
     let mut fragments = [0u8; ROWS];
     number_rows(form, network, sheet, &found, n, &mut fragments);
@@ -192,15 +188,15 @@ fn cut_checked(
 
 // Cuts fragment k out of a network by a sheet: the record is laid over the start of the buffer and its length is the answer;
 // or the call is refused, and the buffer is as it was.
-pub fn cut(network: &[u8], sheet: &[u8], k: u8, out: &mut [u8]) -> CutAnswer
-    ensures answer { λ r. ⌜ answerOf r ≡ cutRecords (now (network .entry)) (now (sheet .entry)) k (length (now (out .entry))) ⌝ }
+pub fn cut(network: &[u8], sheet: &[u8], k: u8, out: &mut [u8]) -> Outcome
+    ensures answer { λ r. ⌜ outcomeOf r ≡ cutRecords (now (network .entry)) (now (sheet .entry)) k (length (now (out .entry))) ⌝ }
     ensures buffer { λ _. ⌜ now (out .exit) ≡ cutBuffer (now (network .entry)) (now (sheet .entry)) k (now (out .entry)) ⌝ }
 {
     let mut rows = [0u16; 65536];
     match check_network_rows(network, &mut rows) {
-        Check::Refused(r) => CutAnswer::Refused(r),
+        Check::Refused(r) => Outcome::Refused(r),
         Check::Fine(form) => match check_sheet(sheet) {
-            Check::Refused(r) => CutAnswer::Refused(r),
+            Check::Refused(r) => Outcome::Refused(r),
             Check::Fine(_) => cut_checked(form, network, sheet, &rows, k, out),
         },
     }

@@ -4,17 +4,16 @@ ghost use lib.ListN.{length};
 ghost use Rattle.lists.specs.Laid.{placed};
 ghost use Rattle.layout.specs.Form.{widest, formOf};
 ghost use Rattle.reading.specs.Largest.{largestNetwork};
+ghost use Rattle.outcomes.specs.Text.{recordOutput};
 ghost use Rattle.cutting.specs.Cutting.{cutNetwork};
-ghost use Rattle.cutting.specs.Text.{cutOutput, cutBound, cutText};
-use crate::CutAnswer;
+ghost use Rattle.cutting.specs.Text.{cutBound, cutText};
 use crate::entry::cut;
 use layout::LARGEST_NETWORK;
 use layout::LARGEST_SHEET;
-use layout::number_of;
 use lines::Line;
 use lines::first_length;
 use lines::place_line;
-use numbers::wide;
+use outcomes::place_outcome;
 
 // No output is longer than the largest network.
 pub const LARGEST: usize = LARGEST_NETWORK;
@@ -35,23 +34,13 @@ pub fn longest_input() -> usize
     LONGEST
 }
 
-// Places fragment k, or the line of a refusal, at the start of out where it fits, and answers its length. Number 20 says that
-// the fragment does not fit, and its place is the fragment's length.
+// Places fragment k, or the line of a refusal, at the start of out where it fits, and answers its length.
 fn put_fragment(network: &[u8], sheet: &[u8], k: u8, out: &mut [u8]) -> usize
-    ensures count { λ r. ⌜ r ≡ length (cutOutput (formOf (now (network .entry))) (cutNetwork (now (network .entry)) (now (sheet .entry)) k)) ⌝ }
-    ensures text { λ _. ⌜ now (out .exit) ≡ placed (cutOutput (formOf (now (network .entry))) (cutNetwork (now (network .entry)) (now (sheet .entry)) k)) (now (out .entry)) ⌝ }
+    ensures count { λ r. ⌜ r ≡ length (recordOutput (formOf (now (network .entry))) (cutNetwork (now (network .entry)) (now (sheet .entry)) k)) ⌝ }
+    ensures text { λ _. ⌜ now (out .exit) ≡ placed (recordOutput (formOf (now (network .entry))) (cutNetwork (now (network .entry)) (now (sheet .entry)) k)) (now (out .entry)) ⌝ }
 {
-    match cut(network, sheet, k, out) {
-        CutAnswer::Done(length) => length,
-        CutAnswer::Refused(refusal) => {
-            let class = refusal.class;
-            let place = refusal.place;
-            match number_of(class) {
-                20 => place,
-                number => place_line(Line::Refused(wide(number), place), out),
-            }
-        }
-    }
+    let outcome = cut(network, sheet, k, out);
+    place_outcome(outcome, out)
 }
 
 // What the cutting program writes when it reads these bytes: its length, and the bytes themselves at the start of out where

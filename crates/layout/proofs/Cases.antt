@@ -9,7 +9,7 @@ use Rattle.layout.specs.Refusals.{numberOf, checkAnswer}
 use Rattle.layout.specs.declared.Check.{Check}
 use Rattle.layout.specs.declared.Check.the-variants.{Fine, Refused}
 use Rattle.layout.specs.declared.Class.{Class}
-use Rattle.layout.specs.declared.Class.the-variants.{Short, Version, Counts, Length, Behind, IllPolicy, IllNode, NoOwn, IllEdge, NoEdgeOut, EntriesShort, EntriesVersion, EntriesCount, EntriesLength, EntriesBehind, IllEntry, NoEntry, NoSuchOwn, NoteDiffers, NoRoom}
+use Rattle.layout.specs.declared.Class.the-variants.{Short, Version, Counts, Length, Behind, IllPolicy, IllNode, NoOwn, IllEdge, NoEdgeOut, EntriesShort, EntriesVersion, EntriesCount, EntriesLength, EntriesBehind, IllEntry, NoEntry, NoSuchOwn, NoteDiffers, NoRoom, OwnedByBoth, Unmatched, PoliciesDiffer, TooMany}
 use Rattle.layout.specs.declared.Form.{Form}
 use Rattle.layout.specs.declared.Refusal.{Refusal}
 
@@ -36,8 +36,12 @@ classOf n =
     (eqb n 17, NoEntry) ∷
     (eqb n 18, NoSuchOwn) ∷
     (eqb n 19, NoteDiffers) ∷
+    (eqb n 20, NoRoom) ∷
+    (eqb n 21, OwnedByBoth) ∷
+    (eqb n 22, Unmatched) ∷
+    (eqb n 23, PoliciesDiffer) ∷
     [])
-    NoRoom
+    TooMany
 
 pub number-class : (c : Class) → classOf (numberOf c) ≡ c
 unfolding classOf
@@ -61,6 +65,10 @@ number-class NoEntry = refl
 number-class NoSuchOwn = refl
 number-class NoteDiffers = refl
 number-class NoRoom = refl
+number-class OwnedByBoth = refl
+number-class Unmatched = refl
+number-class PoliciesDiffer = refl
+number-class TooMany = refl
 
 -- the refusal with a number and a place
 abbrev pub refusalOf : ℕ → ℕ → Refusal

@@ -1,10 +1,10 @@
--- The numbers given back (document 01): a number for each class of refusal, and what a refusal and a check say.
+-- The numbers given back (document 01; 21 to 24 document 02): a number for each class of refusal, and what a refusal and a check say.
 use Prim.Native.Nat.{ℕ}
 use Rattle.lists.specs.Answer.{Answer, given, refused}
 use Rattle.layout.specs.declared.Check.{Check}
 use Rattle.layout.specs.declared.Check.the-variants.{Fine, Refused}
 use Rattle.layout.specs.declared.Class.{Class}
-use Rattle.layout.specs.declared.Class.the-variants.{Short, Version, Counts, Length, Behind, IllPolicy, IllNode, NoOwn, IllEdge, NoEdgeOut, EntriesShort, EntriesVersion, EntriesCount, EntriesLength, EntriesBehind, IllEntry, NoEntry, NoSuchOwn, NoteDiffers, NoRoom}
+use Rattle.layout.specs.declared.Class.the-variants.{Short, Version, Counts, Length, Behind, IllPolicy, IllNode, NoOwn, IllEdge, NoEdgeOut, EntriesShort, EntriesVersion, EntriesCount, EntriesLength, EntriesBehind, IllEntry, NoEntry, NoSuchOwn, NoteDiffers, NoRoom, OwnedByBoth, Unmatched, PoliciesDiffer, TooMany}
 use Rattle.layout.specs.declared.Form.{Form}
 use Rattle.layout.specs.declared.Refusal.{Refusal}
 
@@ -30,6 +30,10 @@ numberOf NoEntry = 17
 numberOf NoSuchOwn = 18
 numberOf NoteDiffers = 19
 numberOf NoRoom = 20
+numberOf OwnedByBoth = 21
+numberOf Unmatched = 22
+numberOf PoliciesDiffer = 23
+numberOf TooMany = 24
 
 -- what a refusal says, of whatever was asked
 abbrev pub refusing : {A : Type 0} → Refusal → Answer A

@@ -42,7 +42,7 @@ pub struct Form {
     pub most: usize,
 }
 
-// The classes of refusal, in the order of document 01's table.
+// The classes of refusal, in the order of their numbers.
 pub enum Class {
     Short,
     Version,
@@ -65,9 +65,14 @@ pub enum Class {
     NoSuchOwn,
     NoteDiffers,
     NoRoom,
+    // of two networks that are joined
+    OwnedByBoth,
+    Unmatched,
+    PoliciesDiffer,
+    TooMany,
 }
 
-// Why a call is refused, and where: the place is an offset, a length, an id or a number asked, as the table has it.
+// Why a call is refused, and where: the place is an offset, a length, an id, a number asked or a count, as the table has it.
 pub struct Refusal {
     pub class: Class,
     pub place: usize,

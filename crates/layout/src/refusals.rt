@@ -28,5 +28,9 @@ pub fn number_of(class: Class) -> u8
         Class::NoSuchOwn => 18,
         Class::NoteDiffers => 19,
         Class::NoRoom => 20,
+        Class::OwnedByBoth => 21,
+        Class::Unmatched => 22,
+        Class::PoliciesDiffer => 23,
+        Class::TooMany => 24,
     }
 }

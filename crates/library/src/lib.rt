@@ -1,5 +1,5 @@
-// What programs in other languages link: the check, the judge, the census, the trail and the cutter, from bytes to bytes, and the rooms that
-// these take.
+// What programs in other languages link: the check, the judge, the census, the trail, the cutter and the joiner, from bytes to bytes, and the
+// rooms that these take.
 //
 // The archive that `rt staticlib library` writes has the functions below under their own names, by C's calling convention;
 // a slice is handed over as a pointer and a length (c/lnianotka.h). No function has a `requires`: a caller in
@@ -15,6 +15,7 @@ ghost use Rattle.judging.specs.Text.{judgeText, judgeBound, namingBound};
 ghost use Rattle.counting.specs.Text.{censusText, longestCensus};
 ghost use Rattle.tracing.specs.Text.{trailText, longestTrail};
 ghost use Rattle.cutting.specs.Text.{cutText, cutBound};
+ghost use Rattle.joining.specs.Text.{joinText, joinBound};
 use layout::Check;
 use layout::number_of;
 ghost use Rattle.reading.specs.Largest.{largestNetwork};
@@ -98,6 +99,22 @@ pub extern "C" fn lnianotka_cut_answer() -> usize
     cutting::largest_output()
 }
 
+// The longest input that is joined; a longer one is refused.
+#[no_mangle]
+pub extern "C" fn lnianotka_join_input() -> usize
+    ensures { λ r. ⌜ r ≡ joinBound ⌝ }
+{
+    joining::longest_input()
+}
+
+// Room enough for every output of the joiner.
+#[no_mangle]
+pub extern "C" fn lnianotka_join_answer() -> usize
+    ensures { λ r. ⌜ r ≡ largestNetwork widest ⌝ }
+{
+    joining::largest_output()
+}
+
 // The line that the judging program prints when it reads these bytes: its length, and the line itself at the start of out
 // where it fits.
 #[no_mangle]
@@ -134,4 +151,14 @@ pub extern "C" fn lnianotka_cut(input: &[u8], out: &mut [u8]) -> usize
     ensures text { λ _. ⌜ now (out .exit) ≡ placed (cutText (now (input .entry))) (now (out .entry)) ⌝ }
 {
     cutting::cut_bytes(input, out)
+}
+
+// What the joining program writes when it reads these bytes: its length, and the bytes themselves at the start of out where
+// they fit.
+#[no_mangle]
+pub extern "C" fn lnianotka_join(input: &[u8], out: &mut [u8]) -> usize
+    ensures count { λ r. ⌜ r ≡ length (joinText (now (input .entry))) ⌝ }
+    ensures text { λ _. ⌜ now (out .exit) ≡ placed (joinText (now (input .entry))) (now (out .entry)) ⌝ }
+{
+    joining::join_bytes(input, out)
 }

@@ -1,15 +1,19 @@
 -- What a fact at every element, and a test over a list, come to.
---     all-..        a fact at every element
---     all, any      tests, to facts and back
-use mathlib.Core.Path.{_≡_, refl, ap₂, _∙_, ap, subst}
-use mathlib.Core.Bool.{Bool, true, false, _||_, false≢true}
+--     all-..          a fact at every element
+--     all, any        tests, to facts and back
+--     allAlike-..     two lists with the same elements
+--     distinct-..     numbers that are all different, of two lists one after the other
+use mathlib.Core.Path.{_≡_, refl, sym, ap₂, _∙_, ap, subst}
+use mathlib.Core.Bool.{Bool, true, false, _||_, or-assoc, false≢true}
 use mathlib.Core.List.{List, [], _∷_, _++_}
 use mathlib.Core.Option.{some, Option·none-ne-some, Option·some-injective}
 use Prim.Native.Nat.{ℕ, zero, suc, _<_}
 use native.Mathlib.Omega.{arith}
+use lib.Dec.{eqb}
 use lib.ListN.{length, getElem?}
+use borrow.Author.Tests.{eqb-true, ne-eqb}
 use Rattle.lists.proofs.Test.{and-l, and-r, and-i, or-i-l, or-i-r, or-f-l, or-f-r, or-swap}
-use Rattle.lists.specs.All.{All, all, any}
+use Rattle.lists.specs.All.{All, all, any, allAlike, Distinct}
 
 module _ {A : Type 0} where
   pub all-map : {P Q : A → Type 0} (xs : List A) → ((x : A) → P x → Q x) → All P xs → All Q xs
@@ -27,6 +31,11 @@ module _ {A : Type 0} where
   pub all-append : (P : A → Type 0) (xs ys : List A) → All P xs → All P ys → All P (xs ++ ys)
   all-append P [] ys h k = k
   all-append P (x ∷ xs) ys h k = (h .0, all-append P xs ys (h .1) k)
+
+  -- and back
+  pub append-all : (P : A → Type 0) (xs ys : List A) → All P (xs ++ ys) → All P xs × All P ys
+  append-all P [] ys h = (tt, h)
+  append-all P (x ∷ xs) ys h = let r = append-all P xs ys (h .1) in ((h .0, r .0), r .1)
 
   pub all-at : (P : A → Type 0) (xs : List A) (i : ℕ) (x : A) → All P xs → getElem? xs i ≡ some x → P x
   all-at P [] i x h e = absurd (Option·none-ne-some _ e)
@@ -92,3 +101,39 @@ module _ {A : Type 0} where
   pub any-or : (p q : A → Bool) (xs : List A) → any p xs || any q xs ≡ any (λ (x : A). p x || q x) xs
   any-or p q [] = refl
   any-or p q (x ∷ xs) = or-swap (p x) (any p xs) (q x) (any q xs) ∙ ap (_||_ (p x || q x)) (any-or p q xs)
+
+  pub any-append : (p : A → Bool) (xs ys : List A) → any p (xs ++ ys) ≡ any p xs || any p ys
+  any-append p [] ys = refl
+  any-append p (x ∷ xs) ys = ap (_||_ (p x)) (any-append p xs ys) ∙ sym (or-assoc (p x) (any p xs) (any p ys))
+
+-- two lists with the same elements, where the test tells whether two elements are equal
+module _ {A : Type 0} (alike : A → A → Bool) where
+  pub allAlike-self : ((x : A) → alike x x ≡ true) → (xs : List A) → allAlike alike xs xs ≡ true
+  allAlike-self self [] = refl
+  allAlike-self self (x ∷ xs) = and-i (alike x x) (allAlike alike xs xs) (self x) (allAlike-self self xs)
+
+  pub allAlike-true : ((x y : A) → alike x y ≡ true → x ≡ y) → (xs ys : List A) → allAlike alike xs ys ≡ true → xs ≡ ys
+  allAlike-true equal [] [] e = refl
+  allAlike-true equal [] (y ∷ ys) e = absurd (false≢true e)
+  allAlike-true equal (x ∷ xs) [] e = absurd (false≢true e)
+  allAlike-true equal (x ∷ xs) (y ∷ ys) e = ap₂ _∷_ (equal x y (and-l (alike x y) (allAlike alike xs ys) e))
+      (allAlike-true equal xs ys (and-r (alike x y) (allAlike alike xs ys) e))
+
+-- numbers that are all different, in two lists one after the other: so are those of each, and no number is in both
+pub distinct-front : (xs ys : List ℕ) → Distinct (xs ++ ys) → Distinct xs
+distinct-front [] ys h = tt
+distinct-front (x ∷ xs) ys h = (append-all (λ (y : ℕ). x ≡ y → ⊥) xs ys (h .0) .0, distinct-front xs ys (h .1))
+
+pub distinct-back : (xs ys : List ℕ) → Distinct (xs ++ ys) → Distinct ys
+distinct-back [] ys h = h
+distinct-back (x ∷ xs) ys h = distinct-back xs ys (h .1)
+
+pub distinct-apart : (xs ys : List ℕ) → Distinct (xs ++ ys) → (n : ℕ) → any (λ (k : ℕ). eqb n k) xs ≡ true → any (λ (k : ℕ). eqb n k) ys ≡ false
+distinct-apart [] ys h n e = absurd (false≢true e)
+distinct-apart (x ∷ xs) ys h n e = go (eqb n x) refl e (distinct-apart xs ys (h .1) n)
+  where
+    go : (t : Bool) → eqb n x ≡ t → t || any (λ (k : ℕ). eqb n k) xs ≡ true
+        → (any (λ (k : ℕ). eqb n k) xs ≡ true → any (λ (k : ℕ). eqb n k) ys ≡ false) → any (λ (k : ℕ). eqb n k) ys ≡ false
+    go true q z r = false-any (λ (k : ℕ). eqb n k) ys (all-map ys (λ y d. ne-eqb n y (λ p. d (sym (eqb-true n x q) ∙ p)))
+        (append-all (λ (y : ℕ). x ≡ y → ⊥) xs ys (h .0) .1))
+    go false q z r = r z

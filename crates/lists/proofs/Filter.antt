@@ -7,7 +7,7 @@
 use mathlib.Core.Path.{_≡_, refl, sym, ap, ap₂, _∙_, subst}
 use mathlib.Core.Bool.{Bool, true, false, cond, not, _&&_, _||_, and-comm, false≢true}
 use mathlib.Core.Option.{Option, none, some, Option·elim, Option·none-ne-some, Option·some-ne-none, Option·some-injective}
-use mathlib.Core.List.{List, [], _∷_, filterMap, filterMap-some, map}
+use mathlib.Core.List.{List, [], _∷_, filterMap, map}
 use mathlib.Core.Logic.{_↔_}
 use Prim.Native.Nat.{suc, _+_, _≤_, _<_}
 use native.Mathlib.Omega.{arith}
@@ -101,6 +101,10 @@ module _ {A : Type 0} where
       go : (t : Bool) → cond t (some x) (firstThat p xs) ≡ none → (firstThat p xs ≡ none → any p xs ≡ false) → t || any p xs ≡ false
       go true z r = absurd (Option·some-ne-none _ z)
       go false z r = r z
+
+  pub none-firstThat : (p : A → Bool) (xs : List A) → All (λ (x : A). p x ≡ false) xs → firstThat p xs ≡ none
+  none-firstThat p [] h = refl
+  none-firstThat p (x ∷ xs) h = rw (h .0) (none-firstThat p xs (h .1))
 
 module _ {A B : Type 0} where
   pub map-congr : (f g : A → B) (xs : List A) → All (λ (x : A). f x ≡ g x) xs → map f xs ≡ map g xs
@@ -267,7 +271,3 @@ module _ {A B : Type 0} where
       all : (ys : List B) → All (λ (y : B). true ≡ true) ys
       all [] = tt
       all (y ∷ ys) = (refl, all ys)
-
--- a partial function that gives back every element
-pub filterMap-self : {A : Type 0} (f : A → Option A) (xs : List A) → All (λ (x : A). f x ≡ some x) xs → filterMap f xs ≡ xs
-filterMap-self f xs h = filterMap-congr f some xs h ∙ filterMap-some xs

@@ -103,6 +103,22 @@ module _ {A : Type 0} (key : A → ℕ) where
       all-above l [] r k a = tt
       all-above l (y ∷ ys) r k a = (rw (ne-eqb (key x) (key y) (λ e. omega arith)) (a .0), all-above (suc (key y)) ys (r .1) (omega arith) (a .1))
 
+  pub find-filter : (p : A → Bool) (i lo : ℕ) (xs : List A) → Rises key lo xs
+      → find key i (filter p xs) ≡ bind (find key i xs) (λ (x : A). cond (p x) (some x) none)
+  unfolding bind
+  find-filter p i lo [] h = refl
+  find-filter p i lo (x ∷ xs) h = go (p x) refl (eqb (key x) i) refl (find-filter p i (suc (key x)) xs (h .1))
+    where
+      go : (s : Bool) → p x ≡ s → (t : Bool) → eqb (key x) i ≡ t
+          → find key i (filter p xs) ≡ bind (find key i xs) (λ (y : A). cond (p y) (some y) none)
+          → find key i (cond s (x ∷ filter p xs) (filter p xs)) ≡ bind (cond t (some x) (find key i xs)) (λ (y : A). cond (p y) (some y) none)
+      go true q true e r = rw (e, q) refl
+      go true q false e r = rw e r
+      go false q true e r =
+          let l : key x ≡ i = eqb-true (key x) i e in
+          rw q (find-low i (suc (key x)) (filter p xs) (omega arith) (rises-filter p (suc (key x)) xs (h .1)))
+      go false q false e r = r
+
 -- under a partial function that keeps the key
 module _ {A B : Type 0} (key : A → ℕ) (key′ : B → ℕ) (f : A → Option B) (same : (x : A) (y : B) → f x ≡ some y → key′ y ≡ key x) where
   pub rises-filterMap : (lo : ℕ) (xs : List A) → Rises key lo xs → Rises key′ lo (filterMap f xs)
@@ -134,6 +150,11 @@ module _ {A B : Type 0} (key : A → ℕ) (key′ : B → ℕ) (f : A → Option
       go false q (some y) e r = rw (same x y e, q) r
 
 -- under a function that keeps the key
+pub rises-map : {A B : Type 0} (key : A → ℕ) (key′ : B → ℕ) (g : A → B) → ((x : A) → key′ (g x) ≡ key x) → (lo : ℕ) (xs : List A)
+    → Rises key lo xs → Rises key′ lo (map g xs)
+rises-map key key′ g h lo [] r = tt
+rises-map key key′ g h lo (x ∷ xs) r = rw (h x) (r .0, rises-map key key′ g h (suc (key x)) xs (r .1))
+
 pub find-map : {A B : Type 0} (key : A → ℕ) (key′ : B → ℕ) (g : A → B) → ((x : A) → key′ (g x) ≡ key x) → (i : ℕ) (xs : List A)
     → find key′ i (map g xs) ≡ Option·map g (find key i xs)
 find-map key key′ g h i [] = refl

@@ -1,5 +1,5 @@
--- A fact at every element of a list, and tests over a list: whether all elements meet one, whether any does. A list of numbers that are
--- all different.
+-- A fact at every element of a list, and tests over a list: whether all elements meet one, whether any does; whether two lists have the
+-- same elements in the same order. A list of numbers that are all different.
 -- The library's `any` and `all` do not compute outside their module, so these stand here, with the test first.
 use mathlib.Core.Bool.{Bool, true, false, _&&_, _||_}
 use mathlib.Core.List.{List, [], _∷_}
@@ -18,6 +18,13 @@ module _ {A : Type 0} where
   abbrev pub any : (A → Bool) → List A → Bool
   any p [] = false
   any p (x ∷ xs) = p x || any p xs
+
+-- as many elements, each alike to the other list's at its place
+abbrev pub allAlike : {A : Type 0} → (A → A → Bool) → List A → List A → Bool
+allAlike alike [] [] = true
+allAlike alike [] (y ∷ ys) = false
+allAlike alike (x ∷ xs) [] = false
+allAlike alike (x ∷ xs) (y ∷ ys) = alike x y && allAlike alike xs ys
 
 abbrev pub Distinct : List ℕ → Type 0
 Distinct [] = Unit {0}

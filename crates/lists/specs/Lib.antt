@@ -4,6 +4,7 @@ pub mod All
 pub mod Filter
 pub mod Answer
 pub mod Sorted
+pub mod Union
 pub mod First
 pub mod Rising
 pub mod Stride

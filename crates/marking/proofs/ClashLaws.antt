@@ -1,13 +1,11 @@
 -- The rows that 19 looks for: own nodes that a cut wire leaves and whose promise is not their note.
---     mark-zero, mark-one, promise-none, promise-some     a mark and a promise by their bytes
---     clashing                                            whether a row is such a one
+--     mark-zero, mark-one     a mark by its test
+--     clashing                whether a row is such a one
 use Prim.Native.Nat.{ℕ, _+_, _<_}
 use native.Mathlib.Omega.{arith}
 use mathlib.Core.Bool.{Bool, true, false, cond, not, _&&_}
 use mathlib.Core.List.{List}
-use mathlib.Core.Option.{none, some}
 use mathlib.Core.Path.{_≡_, refl, sym, ap, _∙_}
-use lib.Dec.{eqb}
 use lib.ListN.{getD}
 use borrow.Author.Tests.{not-true, not-false}
 use Rattle.lists.specs.Stride.{at}
@@ -20,12 +18,12 @@ use Rattle.networks.specs.Sheets.{note}
 use Rattle.layout.specs.Layout.{nodeCount, nodeOffset}
 use Rattle.nodes.specs.Node.{nodeId, isOwn, promising}
 use Rattle.layout.specs.declared.Form.{Form}
-use Rattle.reading.specs.Parts.{promiseAt}
 use Rattle.reading.specs.Whole.{readNetwork, readSheet}
 use Rattle.marking.specs.Marks.{Leaving}
 use Rattle.marking.specs.Pieces.{noteOffset, noteIn}
 use Rattle.records.specs.Entered.{EntryRows}
 use Rattle.marking.specs.Tables.{unclashed}
+use Rattle.reading.proofs.Said.{promise-none, promise-some}
 use Rattle.reading.specs.Rows.{ownIn}
 use Rattle.marking.proofs.Said.{meets-own, meets-input}
 use Rattle.routes.specs.Carry.{highest}
@@ -40,19 +38,6 @@ mark-zero v false e z = refl
 pub mark-one : (v : ℕ) (t : Bool) → v ≡ cond t 1 0 → (v ≡ 0 → ⊥) → t ≡ true
 mark-one v true e z = refl
 mark-one v false e z = absurd (z e)
-
--- a node's promise by its flag
-module _ (w : ℕ) (b : List ℕ) (o : ℕ) (t : Bool) (e : t ≡ promising w b o) where
-  pub promise-none : t ≡ false → promiseAt w b (o + 3 + w) ≡ none
-  unfolding promising promiseAt
-  promise-none y = let z : not (eqb (getD b (o + 3 + w) 0) 0) ≡ false = sym e ∙ y in rw (not-false (eqb (getD b (o + 3 + w) 0) 0) z)
-
-  pub promise-some : t ≡ true → promiseAt w b (o + 3 + w) ≡ some (routeAt w b (o + 4 + w))
-  unfolding promising promiseAt
-  promise-some y =
-      let z : not (eqb (getD b (o + 3 + w) 0) 0) ≡ true = sym e ∙ y in
-      let four : o + 3 + w + 1 ≡ o + 4 + w = omega arith in
-      rw (not-true (eqb (getD b (o + 3 + w) 0) 0) z, four)
 
 module _ (f : Form) (network sheet : List ℕ) (i : ℕ) (l : i < nodeCount network) where
   -- an input

@@ -34,7 +34,8 @@ use Rattle.reading.specs.Rows.{ownIn}
 use Rattle.marking.proofs.Said.{own-box, input-box}
 use Rattle.marking.proofs.RowLaws.{node-there, noted, own-piece, other-piece}
 use Rattle.marking.proofs.FragmentLaws.{row-small}
-use Rattle.marking.proofs.ClashLaws.{mark-zero, mark-one, promise-none, promise-some}
+use Rattle.marking.proofs.ClashLaws.{mark-zero, mark-one}
+use Rattle.reading.proofs.Said.{promise-none, promise-some}
 use Rattle.layout.specs.Form.{sheetLead}
 
 -- a promise stays where no cut wire leaves

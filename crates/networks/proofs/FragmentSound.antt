@@ -14,4 +14,4 @@ pub cut-sound : (𝓐 : Algebra) (B : Bounds) (N F : NetworkOver 𝓐) (S : Shee
     → Sound B N → cut 𝓐 N S k ≡ given F → Sound B F × NoMore F N
 cut-sound 𝓐 B N F S k sound e =
     let c = cut-given 𝓐 N S k F e in
-    rw (← c .2) (fragment-sound N S B k sound (c .0 .entered) (c .1), fragment-less N S (only k))
+    rw (← c .2) (fragment-sound N S B (only k) sound (c .0 .entered) (c .1), fragment-less N S (only k))

@@ -5,13 +5,18 @@
 --     Order                       the order that the laws of choice make
 --     Pieces, Formed, Soundness   what a fragment has, what of it every cut keeps, and that it is sound
 --     Cutting, Refused            the cutter's answers; what a refusal tells
---     Uncut, Recut                a network that nothing cuts; one cut upon another
+--     Recut                       one cut upon another
+--     Promising, Uncut            a network with promises added where cut wires leave; one that nothing cuts
+--     Fitting, Reunion            two networks that fit are joined; the fragments of one cut, joined
 --     Solutions                   solutions in a network and in its fragments
 --     Judging, Agreeing           the judge's answers; two lists that agree
 --     Silence                     a list that holds no route anywhere
 --     Senders, Ranks              the box that a trail goes back to, and those behind it; how many cost no more than a box
 --     Mapping, Whole              what a list maps a fragment's boxes to; fragments and whole
 --     Points, Together            the paper's definition of a fragment, id by id; the fragments of one cut together
+--     Joins, JointWires           the joint network of two
+--     JoinRows, Fitted            the rows of joining's table; two networks that are joined
+--     JointSolutions              solutions and passing lists of the joint network
 pub mod Counts
 pub mod Boxes
 pub mod Wires
@@ -24,8 +29,11 @@ pub mod Formed
 pub mod Soundness
 pub mod Cutting
 pub mod Refused
-pub mod Uncut
 pub mod Recut
+pub mod Promising
+pub mod Uncut
+pub mod Fitting
+pub mod Reunion
 pub mod Solutions
 pub mod Judging
 pub mod Agreeing
@@ -36,3 +44,8 @@ pub mod Mapping
 pub mod Whole
 pub mod Points
 pub mod Together
+pub mod Joins
+pub mod JointWires
+pub mod JoinRows
+pub mod Fitted
+pub mod JointSolutions

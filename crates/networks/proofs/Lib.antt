@@ -6,10 +6,12 @@
 --     PaperCut, FragmentSound, OneFragment     the fragment: the paper's, sound, and the network itself where nothing is cut
 --     Covering                     the fragments together: they cover the network, and across a cut one promises what the other assumes
 --     FragmentsAndWhole, Recutting     the two halves of demand 3
+--     Reunion                      the fragments joined again, and the whole that they give cut again
 --     Counting                     the fragments' judged counts
 --     Silence                      what a pass carried
 --     Trails                       where a route started
 --     TwiceRefused                 fragments with no own box in common
+--     Joining, JoinPasses, JoinRefusals     two networks joined: what is given, which lists pass in it, and 21 to 24 with their places
 --     PaperTheorems                what document 000 proves
 --     Laws                         all else
 pub mod SoundTest
@@ -26,7 +28,11 @@ pub mod Counting
 pub mod Silence
 pub mod Trails
 pub mod Recutting
+pub mod Reunion
 pub mod TwiceRefused
+pub mod Joining
+pub mod JoinPasses
+pub mod JoinRefusals
 pub mod PaperTheorems
 pub mod BestRoute
 pub mod Laws

@@ -3,6 +3,7 @@
 --     Choice      the laws that make the best of several routes one route; the theorems that need them say so
 --     AtLeast     the order that these laws make of `best`
 --     Costs       what routes cost, where a lawful wire makes them dearer: a trail then ends
+--     Telling     whether two policies are equal, which joining asks
 use mathlib.Core.Path.{_≡_}
 use mathlib.Core.Bool.{Bool, true}
 use mathlib.Core.Logic.{_⊎_}
@@ -43,3 +44,9 @@ pub record Costs (𝓐 : Algebra) : Type 1 where
   pub cost : 𝓐 .Route → ℕ
   pub Lawful : 𝓐 .Policy → Type 0
   pub dearer : (p : 𝓐 .Policy) (r : 𝓐 .Route) → Lawful p → (𝓐 .carry p r ≡ 𝓐 .noRoute → ⊥) → cost r < cost (𝓐 .carry p r)
+
+-- A test that tells whether two policies are equal.
+pub record Telling (𝓐 : Algebra) : Type 0 where
+  pub alike : 𝓐 .Policy → 𝓐 .Policy → Bool
+  pub alike-true : (p q : 𝓐 .Policy) → alike p q ≡ true → p ≡ q
+  pub alike-self : (p : 𝓐 .Policy) → alike p p ≡ true

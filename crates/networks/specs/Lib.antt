@@ -8,7 +8,10 @@ pub mod Lowest
 pub mod Solution
 pub mod Judge
 pub mod Cut
+pub mod Join
+pub mod Reunion
 pub mod Paper
+pub mod Joint
 pub mod Covering
 pub mod Counts
 pub mod Silence

@@ -4,18 +4,14 @@
 --     cut-said, leaves-buffer, kept-said     the cutter, likewise, and its buffer
 --     out-said, out-bytes, twice-said   the record that a cut leaves, and one cut upon another's
 use mathlib.Core.Path.{_≡_, refl, sym, ap, ap₂, _∙_}
-use mathlib.Core.Bool.{Bool, true, false, cond}
-use mathlib.Core.List.{List, [], _∷_, _++_}
+use mathlib.Core.List.{List}
 use mathlib.Core.Logic.{_↔_, _⊎_, inl, inr, ⊎-elim}
-use Prim.Native.Nat.{ℕ, zero, suc, _≤_, _<_}
+use Prim.Native.Nat.{ℕ, zero, suc, _<_}
 use native.Mathlib.Omega.{arith}
-use lib.Dec.{ltb}
-use lib.ListN.{length, take, drop, replicate, length-replicate}
-use borrow.Author.Tests.{lt-ltb, le-ltb, ltb-false}
-use Rattle.lists.specs.Answer.{Answer, given, refused, andThen, NoneApplies}
+use lib.ListN.{length, take, replicate, length-replicate}
+use Rattle.lists.specs.Answer.{Answer, given, refused, andThen}
 use Rattle.lists.specs.Bytes.{Bytes}
-use Rattle.lists.specs.Test.{firstOf}
-use Rattle.lists.proofs.Answer.{given-same, refused-given, refused-number, then-given, first-append, first-given, none-first}
+use Rattle.lists.proofs.Answer.{refused-given, refused-number, then-given}
 use Rattle.networks.specs.Sheets.{number}
 use Rattle.layout.specs.Form.{formOf, sheetLead}
 use Rattle.layout.specs.Refusals.{numberOf}
@@ -32,11 +28,11 @@ use Rattle.judging.specs.Judging.{judgeRecords}
 use Rattle.judging.specs.declared.Verdict.{Verdict}
 use Rattle.judging.specs.declared.Verdict.the-variants as verdict
 use Rattle.judging.proofs.Answers.{one-verdict}
-use Rattle.cutting.specs.Answers as cutting
+use Rattle.outcomes.specs.Outcomes.{outcomeOf}
 use Rattle.cutting.specs.Cutting.{cutRecords, cutBuffer}
-use Rattle.cutting.specs.declared.CutAnswer.{CutAnswer}
-use Rattle.cutting.specs.declared.CutAnswer.the-variants as answer
-use Rattle.cutting.proofs.Answers.{one-cut}
+use Rattle.outcomes.specs.declared.Outcome.{Outcome}
+use Rattle.outcomes.specs.declared.Outcome.the-variants as outcome
+use Rattle.outcomes.proofs.Outcomes.{one-outcome}
 use Rattle.cutting.proofs.OnBytes.{record-small}
 use Rattle.promises.specs.Answers.{Passed, cutOut, cutOutTwice}
 use Rattle.promises.specs.Answers.{ReturnsPass, ReturnsFirst, ReturnsCount, AsksEntry, KeepsBuffer, LaysFragment}
@@ -44,21 +40,18 @@ use Rattle.promises.specs.Answers.{CutsAlike, PartsAndWhole, TwiceIsOnce
 use Rattle.promises.specs.Calls.{Passes, cutInto, Roomy, SheetCuts}
 use Rattle.promises.specs.Demand1.{cuttingTable, fragmentRecord}
 use Rattle.promises.specs.Demand3.{cutTwice}
-use Rattle.promises.specs.Suite.{Suite, cutAnswer, leaving, cutLeaves}
+use Rattle.promises.specs.Suite.{Suite, cutLeaves}
 use Rattle.promises.proofs.Cuts.{into-fragment, into-given, number-small, cuts-sheet}
 use Rattle.promises.proofs.Demand1.{judge-refuses, cut-refuses, refusal-keeps}
 use Rattle.promises.proofs.Demand2.{passes-exactly, finds-first, entry-asked, cuts-fragment}
 use Rattle.promises.proofs.Demand3.{blank, blank-roomy, fragments-whole, common-refinement, apart-refuses}
 use Rattle.promises.proofs.JudgedCount.{judged-count}
+use Rattle.promises.proofs.Laying.{leaves-laid, lays, keeps}
 use Rattle.promises.proofs.SameAnswer.{same-answer, same-cut}
 
 -- a verdict that has the definitions' answer is a pass where that is one
 passed-said : (network list : List ℕ) (v : Verdict) → judging.answerOf v ≡ judgeRecords network list → Passed v ↔ Passes network list
 passed-said network list v e = (λ p. (p .0, sym e ∙ ap judging.answerOf (p .1)), λ p. (p .0, one-verdict _ v (verdict.Pass (p .0)) e (sym (p .1))))
-
--- the last row of a table of which no other applies
-last-row : {A : Type 0} (rows : List (Bool × Answer A)) (t : Bool) (x z : Answer A) → NoneApplies rows → firstOf (rows ++ ((t, x) ∷ [])) z ≡ cond t x z
-last-row rows t x z h = first-append rows ((t, x) ∷ []) z ∙ none-first rows (cond t x z) h
 
 module _ (s : Suite) where
   module _ (network list : List ℕ) where
@@ -98,71 +91,38 @@ module _ (s : Suite) where
     F = fragmentRecord network sheet k
 
     pub lays-fragment : LaysFragment s network sheet k out
-    lays-fragment small sheet-small asked out-small none-applies = (with-room, too-short)
-      where
-        row : cutAnswer network sheet k out ≡ cond (ltb (length out) (length F)) (refused 20 (length F)) (given (length F))
-        row = last-row (cuttingTable network sheet k) (ltb (length out) (length F)) (refused 20 (length F)) (given (length F)) none-applies
-
-        answered : (d : CutAnswer) → cutAnswer network sheet k out ≡ cutting.answerOf d
-            → (s .cut network sheet k out ≡ d) × (s .after network sheet k out ≡ leaving network sheet k out (cutting.answerOf d))
-        answered d e =
-            let c = s .cuts network sheet k out small sheet-small asked out-small in
-            (one-cut _ (s .cut network sheet k out) d (c .0) (sym e), c .1 ∙ ap (leaving network sheet k out) e)
-
-        with-room : length F ≤ length out → (s .cut network sheet k out ≡ answer.Done (length F)) × (s .after network sheet k out ≡ F ++ drop (length F) out)
-        with-room room = answered (answer.Done (length F)) (row ∙ rw (le-ltb (length out) (length F) room) refl)
-
-        too-short : length out < length F
-            → (s .cut network sheet k out ≡ answer.Refused (record { class = NoRoom; place = length F })) × (s .after network sheet k out ≡ out)
-        too-short short = answered (answer.Refused (record { class = NoRoom; place = length F })) (row ∙ rw (lt-ltb (length out) (length F) short) refl)
+    lays-fragment small sheet-small asked out-small =
+        let c = s .cuts network sheet k out small sheet-small asked out-small in
+        lays (cuttingTable network sheet k) F out (s .cut network sheet k out) (s .after network sheet k out) (c .0) (c .1)
 
     pub keeps-buffer : KeepsBuffer s network sheet k out
-    keeps-buffer small sheet-small asked out-small r e =
+    keeps-buffer small sheet-small asked out-small =
         let c = s .cuts network sheet k out small sheet-small asked out-small in
-        c .1 ∙ ap (leaving network sheet k out) (sym (c .0) ∙ ap cutting.answerOf e)
+        keeps (cuttingTable network sheet k) F out (s .cut network sheet k out) (s .after network sheet k out) (c .0) (c .1)
 
-module _ (network sheet : List ℕ) (k : ℕ) (out : List ℕ) where
-  abbrev W : List ℕ
-  W = fragmentRecord network sheet k
-
-  -- what is left in the buffer is what the definition of the cutter leaves there
-  pub leaves-buffer : cutLeaves network sheet k out ≡ cutBuffer network sheet k out
-  leaves-buffer = ap (leaving network sheet k out) (sym rows) ∙ go (cutRecords network sheet k (length out)) refl
-    where
-      rows : cutRecords network sheet k (length out) ≡ cutAnswer network sheet k out
-      rows = cut-refuses network sheet k (length out)
-
-      room : (n : ℕ) (t : Bool) → ltb (length out) (length W) ≡ t → cond t (refused 20 (length W)) (given (length W)) ≡ given n
-          → (length W ≤ length out) × (length W ≡ n)
-      room n true q e = absurd (refused-given e)
-      room n false q e = (ltb-false (length out) (length W) q, given-same e)
-
-      go : (a : Answer ℕ) → cutRecords network sheet k (length out) ≡ a → leaving network sheet k out a ≡ cutBuffer network sheet k out
-      go (refused m p) q = sym (refusal-keeps network sheet k out m p q)
-      go (given n) q =
-          let table = cuttingTable network sheet k {A = ℕ} in
-          let last : List (Bool × Answer ℕ) = (ltb (length out) (length W), refused 20 (length W)) ∷ [] in
-          let g = first-given table (firstOf last (given (length W))) n refl (sym (first-append table last (given (length W))) ∙ sym rows ∙ q) in
-          let r = room n (ltb (length out) (length W)) refl (g .1) in
-          ap (λ (m : ℕ). W ++ drop m out) (sym (r .1)) ∙ sym (((cuts-fragment network sheet k out (g .0)) .0 (r .0)) .1)
+-- what is left in the buffer is what the definition of the cutter leaves there
+pub leaves-buffer : (network sheet : List ℕ) (k : ℕ) (out : List ℕ) → cutLeaves network sheet k out ≡ cutBuffer network sheet k out
+leaves-buffer network sheet k out = leaves-laid (cuttingTable network sheet k) (fragmentRecord network sheet k) out (cutBuffer network sheet k out) refl
+    (λ number place e. refusal-keeps network sheet k out number place (cut-refuses network sheet k (length out) ∙ e))
+    (λ h room. (((cuts-fragment network sheet k out h) .0 room) .1))
 
 module _ (s : Suite) where
   module _ (network sheet : List ℕ) (k : ℕ) (out : List ℕ) where
     module _ (small : Bytes network) (sheet-small : Bytes sheet) (asked : k < 256) (out-small : Bytes out) where
-      pub cut-said : cutting.answerOf (s .cut network sheet k out) ≡ cutRecords network sheet k (length out)
+      pub cut-said : outcomeOf (s .cut network sheet k out) ≡ cutRecords network sheet k (length out)
       cut-said = (s .cuts network sheet k out small sheet-small asked out-small) .0 ∙ sym (cut-refuses network sheet k (length out))
 
       kept-said : s .after network sheet k out ≡ cutBuffer network sheet k out
       kept-said = (s .cuts network sheet k out small sheet-small asked out-small) .1 ∙ leaves-buffer network sheet k out
 
-      out-said : cutOut s network sheet k out ≡ cutInto network sheet k out
+      pub out-said : cutOut s network sheet k out ≡ cutInto network sheet k out
       unfolding cutInto
       out-said = ap₂ (λ (a : Answer ℕ) (b : List ℕ). andThen a (λ (n : ℕ). given (take n b))) cut-said kept-said
 
   pub same-record : (network sheet other : List ℕ) → SameRecord s network sheet other
   same-record network sheet other small sheet-small other-small f g agree k out asked out-small =
       let e = same-cut network sheet other small f g agree k out in (
-        one-cut _ (s .cut network sheet k out) (s .cut network other k out) (cut-said network sheet k out small sheet-small asked out-small)
+        one-outcome _ (s .cut network sheet k out) (s .cut network other k out) (cut-said network sheet k out small sheet-small asked out-small)
             (cut-said network other k out small other-small asked out-small ∙ sym (e .0)),
         kept-said network sheet k out small sheet-small asked out-small
             ∙ e .1
@@ -170,7 +130,7 @@ module _ (s : Suite) where
       )
 
 -- buffers of zeros are bytes
-zero-bytes : (n : ℕ) → Bytes (replicate n 0)
+pub zero-bytes : (n : ℕ) → Bytes (replicate n 0)
 zero-bytes zero i = omega arith
 zero-bytes (suc n) zero = omega arith
 zero-bytes (suc n) (suc i) = zero-bytes n i
@@ -180,7 +140,7 @@ class-is : (c d : Class) → numberOf c ≡ numberOf d → c ≡ d
 class-is c d e = sym (number-class c) ∙ ap classOf e ∙ number-class d
 
 -- the record that a cut leaves is bytes
-out-bytes : (network sheet : List ℕ) (k : ℕ) (out : List ℕ) → Bytes network → Bytes sheet
+pub out-bytes : (network sheet : List ℕ) (k : ℕ) (out : List ℕ) → Bytes network → Bytes sheet
     → (F : List ℕ) → cutInto network sheet k out ≡ given F → Bytes F
 out-bytes network sheet k out small sheet-small F e =
     let g = into-given network sheet k out F e in
@@ -190,28 +150,28 @@ module _ (s : Suite) where
   pub cuts-alike : (network sheet : List ℕ) → CutsAlike s network sheet
   cuts-alike network sheet small sheet-small = (to, from)
     where
-      to : ((k : ℕ) (out : List ℕ) (r : Refusal) → k < 256 → Bytes out → s .cut network sheet k out ≡ answer.Refused r
+      to : ((k : ℕ) (out : List ℕ) (r : Refusal) → k < 256 → Bytes out → s .cut network sheet k out ≡ outcome.Refused r
           → (r .class ≡ NoSuchOwn) ⊎ (r .class ≡ NoRoom)) → SheetCuts network sheet
       to h k room n place asked e = go (s .cut network sheet k (replicate room 0)) refl
         where
-          same : cutting.answerOf (s .cut network sheet k (replicate room 0)) ≡ refused n place
+          same : outcomeOf (s .cut network sheet k (replicate room 0)) ≡ refused n place
           same = cut-said s network sheet k (replicate room 0) small sheet-small asked (zero-bytes room)
               ∙ ap (cutRecords network sheet k) (length-replicate room 0) ∙ e
 
-          go : (c : CutAnswer) → s .cut network sheet k (replicate room 0) ≡ c → (n ≡ 18) ⊎ (n ≡ 20)
-          go (answer.Done m) q = absurd (refused-given (sym same ∙ ap cutting.answerOf q))
-          go (answer.Refused r) q =
-              let z : n ≡ numberOf (r .class) = refused-number (sym same ∙ ap cutting.answerOf q) in
+          go : (c : Outcome) → s .cut network sheet k (replicate room 0) ≡ c → (n ≡ 18) ⊎ (n ≡ 20)
+          go (outcome.Done m) q = absurd (refused-given (sym same ∙ ap outcomeOf q))
+          go (outcome.Refused r) q =
+              let z : n ≡ numberOf (r .class) = refused-number (sym same ∙ ap outcomeOf q) in
               ⊎-elim (λ c. inl (z ∙ ap numberOf c)) (λ c. inr (z ∙ ap numberOf c)) (h k (replicate room 0) r asked (zero-bytes room) q)
 
-      from : SheetCuts network sheet → (k : ℕ) (out : List ℕ) (r : Refusal) → k < 256 → Bytes out → s .cut network sheet k out ≡ answer.Refused r
+      from : SheetCuts network sheet → (k : ℕ) (out : List ℕ) (r : Refusal) → k < 256 → Bytes out → s .cut network sheet k out ≡ outcome.Refused r
           → (r .class ≡ NoSuchOwn) ⊎ (r .class ≡ NoRoom)
       from h k out r asked out-small e =
           ⊎-elim (λ q. inl (class-is (r .class) NoSuchOwn q)) (λ q. inr (class-is (r .class) NoRoom q))
           (h k (length out) (numberOf (r .class)) (r .place) asked
-          (sym (cut-said s network sheet k out small sheet-small asked out-small) ∙ ap cutting.answerOf e))
+          (sym (cut-said s network sheet k out small sheet-small asked out-small) ∙ ap outcomeOf e))
 
-  passed : (network list : List ℕ) → Bytes network → Bytes list → Passed (s .judge network list) ↔ Passes network list
+  pub passed : (network list : List ℕ) → Bytes network → Bytes list → Passed (s .judge network list) ↔ Passes network list
   passed network list small list-small = passed-said network list (s .judge network list) (said s network list small list-small)
 
   pub parts-and-whole : (network sheet list : List ℕ) → PartsAndWhole s network sheet list
@@ -256,12 +216,12 @@ module _ (s : Suite) where
       let z = number-byte Z (r .bytes .3) (cuts-sheet network Z (r .cuts)) w in
       let once = out-said s network Z (number (sheetOf Z) w) o₃ (r .bytes .0) (r .bytes .3) z small₃ in
       let e = common-refinement network X Y Z r w own o₁ o₂ o₃ roomy₁ roomy₂ roomy₃ in
-      let n = then-given (cutting.answerOf (s .cut network Z (number (sheetOf Z) w) o₃)) _ (e .2 .0) (once ∙ e .2 .1) in (
+      let n = then-given (outcomeOf (s .cut network Z (number (sheetOf Z) w) o₃)) _ (e .2 .0) (once ∙ e .2 .1) in (
         twice-said network X Y (number (sheetOf X) w) (number (sheetOf Y) w) o₁ o₂ (r .bytes .0) (r .bytes .1) (r .bytes .2) x y small₁ small₂
             ∙ e .0 ∙ sym once,
         twice-said network Y X (number (sheetOf Y) w) (number (sheetOf X) w) o₁ o₂ (r .bytes .0) (r .bytes .2) (r .bytes .1) y x small₁ small₂
             ∙ e .1 ∙ sym once,
-        (n .0, one-cut (given (n .0)) (s .cut network Z (number (sheetOf Z) w) o₃) (answer.Done (n .0)) (n .1) refl),
+        (n .0, one-outcome (given (n .0)) (s .cut network Z (number (sheetOf Z) w) o₃) (outcome.Done (n .0)) (n .1) refl),
       )
 
   pub apart-returns : (network X Y Z : List ℕ) → ApartReturns s network X Y Z

@@ -1,8 +1,8 @@
 -- What a cut leaves in a buffer, by the fragment; and what a sheet that cuts a network tells of the two records.
---     into-laid, into-given, into-fragment        the record at the buffer's start is the fragment's
+--     into-laid, into-given, into-fragment     the record at the buffer's start is the fragment's
 --     record-said                      what a fragment's record says
 --     twice-said                       one cut upon another's record is one cut upon another's fragment
---     number-entered, given-asked      fragment numbers end at 63; a fragment that is given was asked for by a byte
+--     number-entered, there-asked, given-asked      fragment numbers end at 63; a fragment that is given was asked for by a byte
 --     cuts-network, cuts-sheet, cuts-said    neither record is refused, and the sheet cuts what the network says
 --     of-part, parts-low               what is made of a fragment's record is made of the fragment; its number is below 64
 --     said-passes, passes-said         a list passes on bytes where it passes on what they say
@@ -14,8 +14,7 @@ use mathlib.Core.Option.{Option, none, some, Option·map, Option·getD}
 use Prim.Native.Nat.{ℕ, _≤_, _<_}
 use native.Mathlib.Omega.{arith}
 use lib.Dec.{leb}
-use lib.ListN.{length, take}
-use lib.Seq.{take-append-seam}
+use lib.ListN.{length}
 use borrow.Author.Tests.{ne-eqb, leb-true}
 use Rattle.lists.specs.All.{All, any}
 use Rattle.lists.proofs.All.{all-map, all-of, false-any}
@@ -32,7 +31,7 @@ use Rattle.networks.specs.Judge.{pass, judge, Passes as Passing}
 use Rattle.networks.specs.Network.{Own, ownBoxes}
 use Rattle.networks.specs.Sheets.{SheetEntry, sheetEntry, number, note}
 use Rattle.networks.specs.Sound.{Sound}
-use Rattle.lists.proofs.Answer.{given-same, refused-given, refused-number, first-meets}
+use Rattle.lists.proofs.Answer.{refused-number, first-meets}
 use Rattle.networks.proofs.Laws.Cutting.{cut-given, cuts-fits}
 use Rattle.networks.proofs.Refusals.{cut-refused}
 use Rattle.entries.specs.Entries.{entriesTable, entriesRefusal, sheetRefusal, WellFormed}
@@ -42,54 +41,33 @@ use Rattle.reading.specs.Whole.{HouseNetwork, HouseSheet, bounds, writeNetwork,
 use Rattle.reading.proofs.Bridges.{read-network, read-sheet}
 use Rattle.judging.proofs.OnBytes.{judge-said, judged, pass-judged}
 use Rattle.cutting.specs.Cutting.{cutNetwork, cutRecords, cutBuffer}
-use Rattle.cutting.proofs.OnBytes.{cut-said, cut-laid, cut-short, record-largest, record-fine, record-read, record-small, record-form}
+use Rattle.cutting.proofs.OnBytes.{cut-said, record-largest, record-fine, record-read, record-small, record-form}
 use Rattle.promises.specs.Calls.{house1, Passes, cutInto, Roomy, SheetCuts}
 use Rattle.promises.specs.Demand3 as demand
+use Rattle.promises.proofs.Left.{written, left, left-laid, left-given, left-roomy}
 use Rattle.layout.specs.declared.Form.{Form}
 use Rattle.records.proofs.Checked.{given-network, given-entries}
-
--- a fragment's record
-abbrev pub written : Form → HouseNetwork → Answer (List ℕ)
-written f F = given (writeNetwork f F)
 
 module _ (network sheet : List ℕ) (k : ℕ) (out : List ℕ) where
   abbrev f : Form
   f = formOf network
 
+  into-left : cutInto network sheet k out ≡ left f (cutNetwork network sheet k) out
+  unfolding cutInto cutRecords cutBuffer
+  into-left = refl
+
   -- a fragment that there is room for leaves its record
   pub into-laid : (G : HouseNetwork) → cutNetwork network sheet k ≡ given G → length (writeNetwork f G) ≤ length out
       → cutInto network sheet k out ≡ given (writeNetwork f G)
-  unfolding cutInto
-  into-laid G q room =
-      let laid = cut-laid network sheet k out G q room in
-      ap (λ (a : Answer ℕ). andThen a (λ (n : ℕ). given (take n (cutBuffer network sheet k out)))) (laid .0)
-      ∙ ap (λ (b : List ℕ). given (take (length (writeNetwork f G)) b)) (laid .1)
-      ∙ ap given (take-append-seam (writeNetwork f G) _)
+  into-laid G q room = into-left ∙ left-laid f (cutNetwork network sheet k) out G q room
 
   -- a record that was left is a fragment's
   pub into-given : (F : List ℕ) → cutInto network sheet k out ≡ given F → (G : HouseNetwork) × (cutNetwork network sheet k ≡ given G) × (F ≡ writeNetwork f G)
-  unfolding cutInto cutRecords
-  into-given F e = go (cutNetwork network sheet k) refl
-    where
-      left : (m p : ℕ) → cutRecords network sheet k (length out) ≡ refused m p → ⊥
-      left m p q = refused-given (sym (ap (λ (a : Answer ℕ). andThen a (λ (n : ℕ). given (take n (cutBuffer network sheet k out)))) q) ∙ e)
-
-      go : (a : Answer HouseNetwork) → cutNetwork network sheet k ≡ a → (G : HouseNetwork) × (cutNetwork network sheet k ≡ given G) × (F ≡ writeNetwork f G)
-      go (given G) q = (
-        G,
-        q,
-        ⊎-elim (λ room. given-same (sym e ∙ into-laid G q room)) (λ room. absurd (left 20 _ ((cut-short network sheet k out G q room) .0)))
-            (le-or-lt (length (writeNetwork f G)) (length out)),
-      )
-      go (refused m p) q = absurd (left m p (rw q refl))
+  into-given F e = left-given f (cutNetwork network sheet k) out F (sym into-left ∙ e)
 
   pub into-fragment : Bytes network → Roomy (formOf network) out → cutInto network sheet k out ≡ andThen (cutNetwork network sheet k) (written f)
-  unfolding cutInto cutRecords
-  into-fragment small roomy = go (cutNetwork network sheet k) refl
-    where
-      go : (a : Answer HouseNetwork) → cutNetwork network sheet k ≡ a → cutInto network sheet k out ≡ andThen a (written f)
-      go (given G) q = let short = record-largest network sheet k small G q in into-laid G q (omega arith)
-      go (refused m p) q = rw q refl
+  into-fragment small roomy = into-left
+      ∙ left-roomy f (cutNetwork network sheet k) out (λ G q. let short = record-largest network sheet k small G q in omega arith)
 
 pub record-said : (network sheet : List ℕ) (k : ℕ) → Bytes network → Bytes sheet → (G : HouseNetwork) → cutNetwork network sheet k ≡ given G
     → networkOf (writeNetwork (formOf network) G) ≡ G
@@ -164,8 +142,12 @@ module _ (network sheet : List ℕ) (sheet-small : Bytes sheet) (s : WellFormed 
   unfolding cut
   over-refused l = rw (none-asked l) refl
 
+  -- so the number of an own box is a byte
+  pub there-asked : any (numbered N S k) (ownBoxes N) ≡ true → k < 256
+  there-asked t = ⊎-elim (λ l. absurd (false≢true (sym (none-asked l) ∙ t))) (λ l. l) (le-or-lt 256 k)
+
   pub given-asked : (F : HouseNetwork) → cut house1 N S k ≡ given F → k < 256
-  given-asked F e = ⊎-elim (λ l. absurd (false≢true (sym (none-asked l) ∙ (cut-given house1 N S k F e) .1))) (λ l. l) (le-or-lt 256 k)
+  given-asked F e = there-asked ((cut-given house1 N S k F e) .1)
 
 -- 17 does not depend on the fragment asked
 unentered-refused : (N : HouseNetwork) (S : HouseSheet) (k i : ℕ) → unentered N (note S) ≡ some i → cut house1 N S k ≡ refused 17 i

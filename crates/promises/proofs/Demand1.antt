@@ -10,16 +10,21 @@ use Rattle.lists.specs.Answer.{Answer, given, refused}
 use Rattle.lists.specs.Test.{firstOf}
 use Rattle.lists.proofs.Answer.{first-append, first-then}
 use Rattle.networks.specs.Cut.{fragment, cut, cutTable}
+use Rattle.networks.specs.Join.{joining, join, joinTable}
 use Rattle.networks.specs.Judge.{judge, judgeTable}
+use Rattle.routes.specs.Carry.{highest}
 use Rattle.layout.specs.Form.{formOf, listLead, sheetLead}
 use Rattle.entries.specs.Entries.{entriesTable, entriesRefusal}
 use Rattle.records.specs.Network.{networkTable, networkRefusal}
-use Rattle.reading.specs.Whole.{networkOf, sheetOf, listOf}
+use Rattle.reading.specs.House.{houseTelling}
+use Rattle.reading.specs.Whole.{bounds, networkOf, sheetOf, listOf}
 use Rattle.judging.specs.Judging.{judgeRecords}
 use Rattle.cutting.specs.Cutting.{cutNetwork, cutRecords}
 use Rattle.cutting.proofs.OnBytes.{cut-kept}
 use Rattle.promises.specs.Calls.{house1}
-use Rattle.promises.specs.Demand1.{cuttingTable, fragmentRecord, JudgeRefuses, CutRefuses, RefusalKeeps}
+use Rattle.outcomes.proofs.RoomLaws as room
+use Rattle.joining.specs.Joining.{joinNetworks, joinRecords, joinBuffer}
+use Rattle.promises.specs.Demand1.{cuttingTable, joiningTable, fragmentRecord, jointRecord, JudgeRefuses, CutRefuses, RefusalKeeps, JoinRefuses, JoinKeeps}
 
 -- three tables, one after the other
 three : {A : Type 0} (first second third : List (Bool × Answer A)) (a : Answer A)
@@ -61,3 +66,26 @@ cut-refuses network sheet k room =
 
 pub refusal-keeps : (network sheet : List ℕ) (k : ℕ) (out : List ℕ) → RefusalKeeps network sheet k out
 refusal-keeps = cut-kept
+
+-- the joiner's rows up to 24
+pub join-rows : (first second : List ℕ)
+    → joinNetworks first second ≡ firstOf (joiningTable first second) (given (joining (networkOf first) (networkOf second)))
+unfolding joinNetworks join networkRefusal
+join-rows first second =
+    first-then (networkTable (formOf first) first) (given (formOf first)) _
+    ∙ ap (firstOf (networkTable (formOf first) first)) (first-then (networkTable (formOf second) second) (given (formOf second)) _)
+    ∙ three (networkTable (formOf first) first) (networkTable (formOf second) second)
+    (joinTable house1 (houseTelling highest) (bounds (formOf first)) (networkOf first) (networkOf second)) _
+
+pub join-refuses : (first second : List ℕ) (size : ℕ) → JoinRefuses first second size
+unfolding joinRecords
+join-refuses first second size =
+    rw (join-rows first second)
+    (first-then (joiningTable first second) (given (joining (networkOf first) (networkOf second))) _
+    ∙ ap (firstOf (joiningTable first second)) (room-row size (length (jointRecord first second)))
+    ∙ sym (first-append (joiningTable first second)
+    ((ltb size (length (jointRecord first second)), refused 20 (length (jointRecord first second))) ∷ []) _))
+
+pub join-keeps : (first second out : List ℕ) → JoinKeeps first second out
+unfolding joinRecords joinBuffer
+join-keeps first second = room.refusal-keeps (formOf first) (joinNetworks first second)

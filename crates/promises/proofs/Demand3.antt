@@ -20,7 +20,8 @@ use Rattle.cutting.specs.Cutting.{cutNetwork}
 use Rattle.cutting.proofs.OnBytes.{cut-said, record-fine, record-small}
 use Rattle.promises.specs.Calls.{house1, Passes, cutInto, Roomy}
 use Rattle.promises.specs.Demand3.{FragmentsAndWhole, Refined, CommonRefinement, ApartRefused}
-use Rattle.promises.proofs.Cuts.{written, into-fragment, into-given, record-said, twice-said, given-asked, cuts-network, cuts-sheet, cuts-sound, cuts-said, said-passes, passes-said}
+use Rattle.promises.proofs.Cuts.{into-fragment, into-given, record-said, twice-said, given-asked, cuts-network, cuts-sheet, cuts-sound, cuts-said, said-passes, passes-said}
+use Rattle.promises.proofs.Left.{written}
 use Rattle.records.specs.Network.{SoundRecord}
 use Rattle.layout.specs.declared.Form.{Form}
 use Rattle.entries.specs.Entries.{WellFormed}

@@ -20,8 +20,8 @@ use Rattle.reading.proofs.Adding.{fine-adds, wire-dearer}
 use Rattle.judging.specs.Judging.{judgeRecords}
 use Rattle.judging.specs.declared.Verdict.the-variants as verdict
 use Rattle.cutting.specs.Cutting.{cutNetwork, cutRecords}
-use Rattle.cutting.specs.declared.CutAnswer.the-variants as answer
-use Rattle.cutting.proofs.Answers.{one-cut}
+use Rattle.outcomes.specs.declared.Outcome.the-variants as outcome
+use Rattle.outcomes.proofs.Outcomes.{one-outcome}
 use Rattle.promises.specs.Policies.{illPolicy, Framed, addedBy, ZeroRefused, PoliciesAdd, WiresCost, ReturnsIllPolicy}
 use Rattle.promises.specs.Suite.{Suite}
 use Rattle.promises.proofs.Answers.{verdict-is, cut-said, keeps-buffer}
@@ -71,7 +71,7 @@ module _ (network : List ℕ) where
         z .2,
         λ list list-small. verdict-is s network list small list-small (verdict.Refused refusal) (z .4 list),
         λ sheet k out sheet-small asked out-small.
-            let c : s .cut network sheet k out ≡ answer.Refused refusal =
-            one-cut _ (s .cut network sheet k out) (answer.Refused refusal) (cut-said s network sheet k out small sheet-small asked out-small) (sym (z .5 sheet k (length out))) in
+            let c : s .cut network sheet k out ≡ outcome.Refused refusal =
+            one-outcome _ (s .cut network sheet k out) (outcome.Refused refusal) (cut-said s network sheet k out small sheet-small asked out-small) (sym (z .5 sheet k (length out))) in
             (c, keeps-buffer s network sheet k out small sheet-small asked out-small refusal c),
       )

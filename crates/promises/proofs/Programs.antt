@@ -1,4 +1,4 @@
--- What the programs promise, proved. An output over the bound is a refused line whatever is behind (judge-start, cut-start, trail-start). A
+-- What the programs promise, proved. An output over the bound is a refused line whatever is behind (judge-start, cut-start, trail-start, join-start). A
 -- line's first byte is its first word's, and a box's id begins with a digit; a fragment's record is shorter than 2^16 bytes, so that its
 -- length's high byte is 0.
 use mathlib.Core.Path.{_≡_, refl, sym, ap, _∙_, subst}
@@ -38,12 +38,17 @@ use Rattle.tracing.specs.Tracing.{showRecords}
 use Rattle.tracing.specs.Text.{trailLines, shownText, trailText, trailOutput}
 use Rattle.tracing.proofs.Lengths.{trail-start}
 use Rattle.cutting.specs.Cutting.{cutNetwork}
-use Rattle.cutting.specs.Text.{cutOutput, askedOf, behindAsked, cutBound, cutText}
+use Rattle.outcomes.specs.Text.{recordOutput}
+use Rattle.cutting.specs.Text.{askedOf, behindAsked, cutBound, cutText}
 use Rattle.cutting.proofs.Starts.{cut-start}
 use Rattle.cutting.proofs.TextLaws.{text-fits}
+use Rattle.joining.specs.Joining.{joinNetworks}
+use Rattle.joining.specs.Text.{joinBound, joinText}
+use Rattle.joining.proofs.Starts.{join-start}
+use Rattle.joining.proofs.TextLaws.{text-fits as join-fits}
 use Rattle.promises.specs.Calls.{house1}
-use Rattle.promises.specs.Programs.{JudgeReads, CutReads, CensusReads, CensusPrints, inputJudged, inputCut, JudgePrints, CutWrites, judgeMark, JudgeShows, cutMark, CutShows}
-use Rattle.promises.specs.Programs.{TrailReads, inputShown, TrailPrints, TrailMarked, TrailShows}
+use Rattle.promises.specs.Programs.{JudgeReads, CutReads, CensusReads, CensusPrints, inputJudged, inputCut, JudgePrints, CutWrites, judgeMark, JudgeShows, recordMark, CutShows}
+use Rattle.promises.specs.Programs.{TrailReads, inputShown, TrailPrints, TrailMarked, TrailShows, JoinReads, inputJoined, JoinWrites, JoinShows}
 
 -- the first bytes of an input, one more than a bound
 start-told : (bound : ℕ) (text : List ℕ → List ℕ) → ((read more : List ℕ) → bound < length read → text (read ++ more) ≡ text read)
@@ -65,6 +70,9 @@ census-reads = start-told judgeBound censusText census-start
 
 pub trail-reads : (input : List ℕ) → TrailReads input
 trail-reads = start-told namingBound trailText trail-start
+
+pub join-reads : (input : List ℕ) → JoinReads input
+join-reads = start-told joinBound joinText join-start
 
 pub census-prints : (input : List ℕ) → CensusPrints input
 unfolding censusText judgeText withinBound censusRecords
@@ -101,19 +109,24 @@ judge-prints input = go (ltb judgeBound (length input))
 pub judge-shows : (input : List ℕ) → JudgeShows input
 judge-shows input = ap (take 1) (judge-prints input) ∙ verdict-first (inputJudged input)
 
-pub cut-writes : (input : List ℕ) → CutWrites input
-unfolding cutText withinBound cutOutput
-cut-writes input = go (ltb cutBound (length input))
+-- an input over the bound is refused like a network
+bound-writes : (bound : ℕ) (input : List ℕ) (f : Form) (a : Answer HouseNetwork)
+    → withinBound bound input (recordOutput f a) ≡ recordOutput f (firstOf ((ltb bound (length input), refused 5 bound) ∷ []) a)
+unfolding withinBound recordOutput
+bound-writes bound input f a = go (ltb bound (length input))
   where
-    f : Form
-    f = formOf (firstRecord input)
-
-    a : Answer HouseNetwork
-    a = cutNetwork (firstRecord input) (behindAsked (restOf input)) (askedOf (restOf input))
-
-    go : (t : Bool) → cond t (refusedLine 5 cutBound) (cutOutput f a) ≡ cutOutput f (firstOf ((t, refused 5 cutBound) ∷ []) a)
+    go : (t : Bool) → cond t (refusedLine 5 bound) (recordOutput f a) ≡ recordOutput f (firstOf ((t, refused 5 bound) ∷ []) a)
     go true = refl
     go false = refl
+
+pub cut-writes : (input : List ℕ) → CutWrites input
+unfolding cutText
+cut-writes input = bound-writes cutBound input (formOf (firstRecord input))
+    (cutNetwork (firstRecord input) (behindAsked (restOf input)) (askedOf (restOf input)))
+
+pub join-writes : (input : List ℕ) → JoinWrites input
+unfolding joinText
+join-writes input = bound-writes joinBound input (formOf (firstRecord input)) (joinNetworks (firstRecord input) (restOf input))
 
 -- the high byte of a number below 2^16
 high-byte : (n : ℕ) → n < 65536 → n / 65536 / 256 ≡ 0
@@ -123,22 +136,26 @@ record-first : (f : Form) (N : HouseNetwork) → length (writeNetwork f N) ≤ l
 unfolding writeNetwork u32Bytes u16Bytes largestNetwork nodeWidth
 record-first f N short = ap (λ (k : ℕ). k ∷ []) (high-byte _ (omega arith))
 
-output-first : (f : Form) (a : Answer HouseNetwork) → length (cutOutput f a) ≤ largestNetwork widest → take 1 (cutOutput f a) ≡ cutMark a
-unfolding cutOutput refusedLine line
+output-first : (f : Form) (a : Answer HouseNetwork) → length (recordOutput f a) ≤ largestNetwork widest → take 1 (recordOutput f a) ≡ recordMark a
+unfolding recordOutput refusedLine line
 output-first f (given F) short = record-first f F short
 output-first f (refused number place) short = refl
 
--- no output is longer than the largest network
-cut-short : (input : List ℕ) → length (cutText input) ≤ largestNetwork widest
-cut-short input =
-    let room = largestNetwork widest in
-    let long = length-replicate {A = ℕ} room 0 in
-    omega (arith, text-fits input (length (cutText input)) refl (replicate room 0) long)
+-- what fits into every buffer of a length is no longer
+fits-short : (room n : ℕ) → ((out : List ℕ) → length out ≡ room → n ≤ length out) → n ≤ room
+fits-short room n fits = let long = length-replicate {A = ℕ} room 0 in omega (arith, fits (replicate room 0) long)
 
 pub cut-shows : (input : List ℕ) → CutShows input
 cut-shows input =
     let written = cut-writes input in
-    ap (take 1) written ∙ output-first (formOf (firstRecord input)) (inputCut input) (rw written at (cut-short input))
+    ap (take 1) written ∙ output-first (formOf (firstRecord input)) (inputCut input)
+    (rw written at (fits-short (largestNetwork widest) (length (cutText input)) (text-fits input (length (cutText input)) refl)))
+
+pub join-shows : (input : List ℕ) → JoinShows input
+join-shows input =
+    let written = join-writes input in
+    ap (take 1) written ∙ output-first (formOf (firstRecord input)) (inputJoined input)
+    (rw written at (fits-short (largestNetwork widest) (length (joinText input)) (join-fits input (length (joinText input)) refl)))
 
 -- what is shown of the records in an input, whatever its length
 abbrev within : List ℕ → Answer (Shown Route)

@@ -15,7 +15,8 @@ use Rattle.records.proofs.Checked.{given-network}
 use Rattle.reading.specs.Whole.{HouseNetwork, bounds, networkOf, sheetOf}
 use Rattle.reading.proofs.Bridges.{read-network}
 use Rattle.judging.proofs.OnBytes.{judge-same}
-use Rattle.cutting.specs.Cutting.{cutNetwork, recordAnswer, laidAnswer, cutRecords, cutBuffer}
+use Rattle.outcomes.specs.Room.{recordAnswer, laidAnswer}
+use Rattle.cutting.specs.Cutting.{cutNetwork, cutRecords, cutBuffer}
 use Rattle.cutting.proofs.OnBytes.{cut-said}
 use Rattle.promises.specs.Calls.{house1}
 use Rattle.promises.specs.SameAnswer.{SheetsAgree, SameAnswer, SameCut}

@@ -1,15 +1,17 @@
 -- There is a suite, so that the statements about every suite are about something: every answer that is asked of one is some verdict's, or some
--- answer's of the cutter, since the numbers of refusals and findings are those that an enum has a case for.
-use mathlib.Core.Path.{_≡_, refl, ap}
+-- outcome's, since the numbers of refusals and findings are those that an enum has a case for.
+use mathlib.Core.Path.{_≡_, refl, ap, _∙_}
 use mathlib.Core.Bool.{Bool, true, false, cond, not, _||_, false≢true}
-use mathlib.Core.List.{List, [], _∷_, _++_}
+use mathlib.Core.List.{List, [], _∷_}
 use mathlib.Core.Option.{Option, none, some, Option·getD}
 use Prim.Native.Nat.{ℕ, suc}
 use lib.Dec.{eqb, ltb}
 use lib.ListN.{length}
 use borrow.Author.Tests.{eqb-true}
+use Rattle.lists.specs.All.{all}
 use Rattle.lists.specs.Answer.{Answer, given, refused}
-use Rattle.lists.proofs.Answer.{first-meets}
+use Rattle.lists.specs.Test.{firstOf}
+use Rattle.lists.proofs.Answer.{first-append, first-meets}
 use Rattle.routes.specs.declared.Demand.{Demand}
 use Rattle.routes.specs.declared.Route.{Route}
 use Rattle.routes.specs.declared.Route.the-variants.{None}
@@ -24,11 +26,11 @@ use Rattle.reading.specs.Whole.{HouseNetwork, HouseList, networkOf, listOf}
 use Rattle.judging.specs.Answers as judging
 use Rattle.judging.specs.declared.Verdict.the-variants.{NotDue, PromiseBroken, DemandUnmet}
 use Rattle.judging.proofs.Answers.{verdictOf}
-use Rattle.cutting.specs.Answers as cutting
-use Rattle.cutting.proofs.Answers.{cutOf}
+use Rattle.outcomes.specs.Outcomes.{outcomeOf}
+use Rattle.outcomes.proofs.Outcomes.{outcomeFrom}
 use Rattle.promises.specs.Calls.{house1}
-use Rattle.promises.specs.Demand1.{judgingTable, cuttingTable, fragmentRecord}
-use Rattle.promises.specs.Suite.{judgeAnswer, cutAnswer, cutLeaves, Suite}
+use Rattle.promises.specs.Demand1.{judgingTable, cuttingTable, joiningTable, fragmentRecord, jointRecord}
+use Rattle.promises.specs.Suite.{judgeAnswer, laying, cutAnswer, cutLeaves, joinAnswer, joinLeaves, Suite}
 
 -- a number of a class
 abbrev classed : ℕ → Bool
@@ -44,9 +46,9 @@ told (given (pass count)) = true
 told (given (found number node route count)) = named number
 told (refused number place) = classed number
 
-abbrev cutTold : Answer ℕ → Bool
-cutTold (given n) = true
-cutTold (refused number place) = classed number
+abbrev laidTold : Answer ℕ → Bool
+laidTold (given n) = true
+laidTold (refused number place) = classed number
 
 abbrev findingTold : Option (Finding Route) → Bool
 findingTold none = true
@@ -92,23 +94,35 @@ verdict-answer (given (found number node route count)) e = go (eqb number 31) re
     go false p false q true r h = rw (eqb-true number 33 r) refl
     go false p false q false r h = absurd (false≢true h)
 
-cut-answer : (a : Answer ℕ) → cutTold a ≡ true → cutting.answerOf (cutOf a) ≡ a
-unfolding cutOf
-cut-answer (given n) e = refl
-cut-answer (refused number place) e = ap (λ (n : ℕ). refused n place) (eqb-true _ number e)
+outcome-answer : (a : Answer ℕ) → laidTold a ≡ true → outcomeOf (outcomeFrom a) ≡ a
+unfolding outcomeFrom
+outcome-answer (given n) e = refl
+outcome-answer (refused number place) e = ap (λ (n : ℕ). refused n place) (eqb-true _ number e)
+
+-- so of a table with such numbers and 20 below it
+laid-answer : (rows : List (Bool × Answer ℕ)) (W out : List ℕ) → all (λ (r : Bool × Answer ℕ). laidTold (r .1)) rows ≡ true
+    → outcomeOf (outcomeFrom (laying rows W out)) ≡ laying rows W out
+unfolding classOf
+laid-answer rows W out h = outcome-answer (laying rows W out)
+    (ap laidTold (first-append rows last (given (length W))) ∙ first-meets laidTold rows (firstOf last (given (length W))) h
+    (first-meets laidTold last (given (length W)) refl refl))
+  where
+    last : List (Bool × Answer ℕ)
+    last = (ltb (length out) (length W), refused 20 (length W)) ∷ []
 
 pub some-suite : Suite
 unfolding classOf
 some-suite = record {
   judge = λ network list. verdictOf (judgeAnswer network list);
-  cut = λ network sheet k out. cutOf (cutAnswer network sheet k out);
+  cut = λ network sheet k out. outcomeFrom (cutAnswer network sheet k out);
+  join = λ first second out. outcomeFrom (joinAnswer first second out);
   after = cutLeaves;
+  after-join = joinLeaves;
   judges = λ network list small list-small.
       let below = given (verdictFrom house1 (networkOf network) (listOf list) 0 (ownBoxes (networkOf network))) in
       verdict-answer (judgeAnswer network list) (first-meets told (judgingTable network list) below refl
       (verdict-told (networkOf network) (listOf list) 0 (ownBoxes (networkOf network))));
   cuts = λ network sheet k out small sheet-small asked out-small.
-      let F = fragmentRecord network sheet k in
-      let rows : List (Bool × Answer ℕ) = cuttingTable network sheet k ++ ((ltb (length out) (length F), refused 20 (length F)) ∷ []) in
-      (cut-answer (cutAnswer network sheet k out) (first-meets cutTold rows (given (length F)) refl refl), refl);
+      (laid-answer (cuttingTable network sheet k) (fragmentRecord network sheet k) out refl, refl);
+  joins = λ first second out small second-small out-small. (laid-answer (joiningTable first second) (jointRecord first second) out refl, refl);
 }

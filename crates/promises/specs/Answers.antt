@@ -31,9 +31,9 @@ use Rattle.reading.specs.Whole.{HouseNetwork, HouseList, networkOf, sheetOf, li
 use Rattle.judging.specs.Answers as judging
 use Rattle.judging.specs.declared.Verdict.{Verdict}
 use Rattle.judging.specs.declared.Verdict.the-variants as verdict
-use Rattle.cutting.specs.Answers as cutting
-use Rattle.cutting.specs.declared.CutAnswer.{CutAnswer}
-use Rattle.cutting.specs.declared.CutAnswer.the-variants as answer
+use Rattle.outcomes.specs.Outcomes.{outcomeOf}
+use Rattle.outcomes.specs.declared.Outcome.{Outcome}
+use Rattle.outcomes.specs.declared.Outcome.the-variants as outcome
 use Rattle.promises.specs.Calls.{house1, Roomy, SheetCuts}
 use Rattle.promises.specs.Demand1.{cuttingTable, fragmentRecord}
 use Rattle.promises.specs.Demand3.{Refined, apartPlace}
@@ -47,7 +47,7 @@ Passed v = (count : ℕ) × (v ≡ verdict.Pass count)
 module _ (s : Suite) where
   -- As many bytes from the start of the buffer as the cut answers, or its refusal.
   abbrev pub cutOut : List ℕ → List ℕ → ℕ → List ℕ → Answer (List ℕ)
-  cutOut network sheet k out = andThen (cutting.answerOf (s .cut network sheet k out)) (λ (n : ℕ). given (take n (s .after network sheet k out)))
+  cutOut network sheet k out = andThen (outcomeOf (s .cut network sheet k out)) (λ (n : ℕ). given (take n (s .after network sheet k out)))
 
   -- one cut upon another's record
   abbrev pub cutOutTwice : List ℕ → List ℕ → ℕ → List ℕ → List ℕ → ℕ → List ℕ → Answer (List ℕ)
@@ -90,23 +90,23 @@ module _ (s : Suite) where
       abbrev F : List ℕ
       F = fragmentRecord network sheet k
 
-      abbrev c : CutAnswer
+      abbrev c : Outcome
       c = s .cut network sheet k out
 
       -- Demand 1: a refusal leaves the buffer as it was.
       abbrev pub KeepsBuffer : Type 0
-      KeepsBuffer = Bytes network → Bytes sheet → k < 256 → Bytes out → (r : Refusal) → c ≡ answer.Refused r → s .after network sheet k out ≡ out
+      KeepsBuffer = Bytes network → Bytes sheet → k < 256 → Bytes out → (r : Refusal) → c ≡ outcome.Refused r → s .after network sheet k out ≡ out
 
       -- Demand 2: where none of 1 to 19 applies, a buffer with room gets the fragment's record, with the bytes behind it as they were, and
       -- the answer is its length. A shorter one stays as it was, and the answer is the length needed.
       abbrev pub LaysFragment : Type 0
       LaysFragment = Bytes network → Bytes sheet → k < 256 → Bytes out → NoneApplies (cuttingTable network sheet k {A = ℕ})
-          → (length F ≤ length out → (c ≡ answer.Done (length F)) × (s .after network sheet k out ≡ F ++ drop (length F) out))
-          × (length out < length F → (c ≡ answer.Refused (record { class = NoRoom; place = length F })) × (s .after network sheet k out ≡ out))
+          → (length F ≤ length out → (c ≡ outcome.Done (length F)) × (s .after network sheet k out ≡ F ++ drop (length F) out))
+          × (length out < length F → (c ≡ outcome.Refused (record { class = NoRoom; place = length F })) × (s .after network sheet k out ≡ out))
 
     -- A sheet cuts a network where the cutter refuses by it for want of the fragment or of room alone.
     abbrev pub CutsAlike : Type 0
-    CutsAlike = Bytes network → Bytes sheet → ((k : ℕ) (out : List ℕ) (r : Refusal) → k < 256 → Bytes out → s .cut network sheet k out ≡ answer.Refused r
+    CutsAlike = Bytes network → Bytes sheet → ((k : ℕ) (out : List ℕ) (r : Refusal) → k < 256 → Bytes out → s .cut network sheet k out ≡ outcome.Refused r
         → (r .class ≡ NoSuchOwn) ⊎ (r .class ≡ NoRoom)) ↔ SheetCuts network sheet
 
     -- Demand 3, fragments and whole: the list passes in every fragment that the cutter gives exactly where it passes in the whole and has the
@@ -124,7 +124,7 @@ module _ (s : Suite) where
         → (o₁ o₂ o₃ : List ℕ) → Bytes o₁ → Bytes o₂ → Bytes o₃ → Roomy (formOf network) o₁ → Roomy (formOf network) o₂ → Roomy (formOf network) o₃
         → (cutOutTwice network X (number (sheetOf X) w) o₁ Y (number (sheetOf Y) w) o₂ ≡ cutOut network Z (number (sheetOf Z) w) o₃)
         × (cutOutTwice network Y (number (sheetOf Y) w) o₁ X (number (sheetOf X) w) o₂ ≡ cutOut network Z (number (sheetOf Z) w) o₃)
-        × ((n : ℕ) × (s .cut network Z (number (sheetOf Z) w) o₃ ≡ answer.Done n))
+        × ((n : ℕ) × (s .cut network Z (number (sheetOf Z) w) o₃ ≡ outcome.Done n))
 
     -- Where no own box is in both fragments, both orders are refused with 18.
     abbrev pub ApartReturns : Type 0

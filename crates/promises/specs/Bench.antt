@@ -1,10 +1,10 @@
--- The bench examples of document 01 that are marked P, and rows for document 02's K1 (policies that add 0) and K2 (trails): one table, one
--- statement.
+-- The bench examples of document 01 that are marked P, and rows for document 02's K1 (policies that add 0), K2 (trails) and K3 (joins): one
+-- table, one statement.
 -- Each row has an answer of the definitions, as numbers or as the line that a program prints, and what it must be.
 use mathlib.Core.Path.{_≡_, refl}
 use mathlib.Core.Bool.{cond}
 use mathlib.Core.List.{List, [], _∷_, _++_, map, filterMap}
-use mathlib.Core.Option.{Option·elim}
+use mathlib.Core.Option.{Option, none, some, Option·elim}
 use Prim.Native.Nat.{ℕ}
 use Rattle.lists.specs.Best.{best}
 use Rattle.lists.specs.First.{firstBad, every}
@@ -12,6 +12,7 @@ use Rattle.lists.specs.Rising.{least, place}
 use Rattle.lists.specs.Stride.{at}
 use Rattle.numbers.specs.BigEndian.{u16At, u32At, u16Bytes, u32Bytes}
 use Rattle.numbers.specs.Decimal.{decimal, places}
+use Rattle.routes.specs.Alike.{samePolicy}
 use Rattle.routes.specs.Carry.{highest, carried, lacks, barred, dear, newTags, crossed}
 use Rattle.routes.specs.Demand.{meets}
 use Rattle.numbers.specs.Zeros.{zeros}
@@ -22,6 +23,7 @@ use Rattle.routes.specs.declared.Route.{Route}
 use Rattle.routes.specs.declared.Route.the-variants.{None, Held}
 use Rattle.lists.specs.Answer.{Answer, given, refused}
 use Rattle.networks.specs.Cut.{leaves, feeds, fragmentOf, cut}
+use Rattle.networks.specs.Join.{joining, join}
 use Rattle.networks.specs.Judge.{fault, verdictFrom, judge}
 use Rattle.networks.specs.Sheets.{number, note, listed}
 use Rattle.networks.specs.Solution.{due, mapping}
@@ -44,7 +46,10 @@ use Rattle.judging.specs.Text.{verdictLine, judgeBound, namingBound, judgeText}
 use Rattle.tracing.specs.Tracing.{showRecords}
 use Rattle.tracing.specs.Text.{trailLines, shownText, trailOutput, trailText}
 use Rattle.cutting.specs.Cutting.{cutNetwork, cutRecords}
-use Rattle.promises.specs.BenchNetworks.{held, adds, masks, chainRecord, twoAnswers, twoSenders, listing, splitting, pairRecord, pairListing, fedRecord, fedListing}
+use Rattle.outcomes.specs.Text.{recordOutput}
+use Rattle.joining.specs.Joining.{joinNetworks, joinRecords}
+use Rattle.joining.specs.Text.{joinBound, joinText}
+use Rattle.promises.specs.BenchNetworks.{held, adds, masks, chainRecord, twoAnswers, twoSenders, listing, splitting, pairRecord, pairListing, fedRecord, fedListing, ownerRecord, bothRecord, twoFedRecord}
 
 pub record Example : Type 0 where
   pub answer : List ℕ
@@ -78,6 +83,14 @@ cutting room = sizeOf (cutRecords (chainRecord (held 100 0 1 0) 2) (splitting (h
 -- what the tracing program prints when it reads a network, the id of a box and a list
 abbrev tracing : List ℕ → ℕ → List ℕ → List ℕ
 tracing network id list = trailText (network ++ (u16Bytes id ++ list))
+
+-- what the joining program writes when it reads two networks
+abbrev joined : List ℕ → List ℕ → List ℕ
+joined first second = joinText (first ++ second)
+
+-- box 1 by the policy that adds 1
+abbrev owning : Option Route → List ℕ
+owning = ownerRecord (adds 1 ∷ [])
 
 abbrev pub bench : List Example
 bench =
@@ -124,11 +137,30 @@ bench =
     is (tracing twoAnswers 3 (listing (held 100 0 1 0) (held 200 2 1 1) (held 100 1 1 0))) (text "3 100 1 1 0\n1 100 0 1 0\n") ∷
     -- a box that holds none; one that an input supplies; the input itself, which is no own box
     is (tracing (pairRecord (adds 1 ∷ []) None) 2 (pairListing None None)) (text "2 none\n") ∷
-    is (tracing (fedRecord (held 100 0 1 0)) 2 (fedListing (held 100 1 1 0))) (text "2 100 1 1 0\n1 100 0 1 0\n") ∷
-    is (tracing (fedRecord (held 100 0 1 0)) 1 (fedListing (held 100 1 1 0))) (text "refused 18 1\n") ∷
+    is (tracing (fedRecord 2 (held 100 0 1 0)) 2 (fedListing (held 100 1 1 0))) (text "2 100 1 1 0\n1 100 0 1 0\n") ∷
+    is (tracing (fedRecord 2 (held 100 0 1 0)) 1 (fedListing (held 100 1 1 0))) (text "refused 18 1\n") ∷
     -- a box that two senders supply, of which the lowest is shown; the same box where it starts with that route, and the trail stops there
     is (tracing (twoSenders None) 3 (listing (held 100 0 1 0) (held 100 0 1 0) (held 100 1 1 0))) (text "3 100 1 1 0\n1 100 0 1 0\n") ∷
     is (tracing (twoSenders (held 100 1 1 0)) 3 (listing (held 100 0 1 0) (held 100 0 1 0) (held 100 1 1 0))) (text "3 100 1 1 0\n") ∷
+    -- a box and its owner, in either order: the input that the other owns disappears; one input of two networks, which appears once
+    is (joined (owning (some (held 100 0 1 0))) (fedRecord 2 (held 100 0 1 0))) (bothRecord (some (held 100 0 1 0))) ∷
+    is (joined (fedRecord 2 (held 100 0 1 0)) (owning (some (held 100 0 1 0)))) (bothRecord (some (held 100 0 1 0))) ∷
+    is (joined (fedRecord 3 None) (fedRecord 2 None)) (twoFedRecord None) ∷
+    -- a box that both own, also where they assume different routes of another; a promise that is not what is assumed; none, also where none
+    -- is assumed; two different assumptions for one box, also where the policies differ
+    is (joined (fedRecord 2 None) (fedRecord 2 (held 100 0 1 0))) (text "refused 21 2\n") ∷
+    is (joined (owning (some (held 100 0 1 0))) (fedRecord 2 (held 100 1 1 0))) (text "refused 22 1\n") ∷
+    is (joined (owning none) (fedRecord 2 None)) (text "refused 22 1\n") ∷
+    is (joined (fedRecord 2 (held 100 0 1 0)) (fedRecord 3 (held 100 1 1 0))) (text "refused 22 1\n") ∷
+    is (joined (ownerRecord (adds 2 ∷ []) none) (fedRecord 2 None)) (text "refused 22 1\n") ∷
+    -- policies that differ, also by one that no wire uses
+    is (joined (ownerRecord (adds 2 ∷ []) (some None)) (fedRecord 2 None)) (text "refused 23 0\n") ∷
+    is (joined (ownerRecord (adds 1 ∷ adds 1 ∷ []) (some None)) (fedRecord 2 None)) (text "refused 23 0\n") ∷
+    -- a second network that is not there; the joint record's room; the longest input
+    is (joined (owning none) []) (text "refused 1 0\n") ∷
+    is (sizeOf (joinRecords (owning (some None)) (fedRecord 2 None) 81)) (20 ∷ 82 ∷ []) ∷
+    is (sizeOf (joinRecords (owning (some None)) (fedRecord 2 None) 82)) (82 ∷ []) ∷
+    is (joinBound ∷ []) (70292 ∷ []) ∷
     []
 
 -- every answer is the expected one
@@ -145,4 +177,5 @@ unfolding firstBad every least place at filterMap Option·elim
     readNetwork writeNetwork readSheet writeSheet readList writeList largestNetwork largestEntries
     line spaced routeWords passLine refusedLine foundLine boxLine withinBound firstLength judgeRecords verdictLine judgeBound judgeText cutNetwork cutRecords
     namingBound showRecords trailLines shownText trailOutput trailText
+    samePolicy joining join joinNetworks joinRecords recordOutput joinBound joinText
 bench-holds = refl

@@ -1,4 +1,4 @@
--- The networks, lists and sheets of the bench examples (document 01; document 02, K1 and K2), as records.
+-- The networks, lists and sheets of the bench examples (document 01; document 02, K1 to K3), as records.
 --     held, adds, masks        routes and policies
 --     chainRecord              three boxes in a row
 --     twoAnswers               the network with two settled lists
@@ -6,9 +6,11 @@
 --     listing, splitting       lists and sheets for three boxes
 --     pairRecord, pairListing  two boxes, and a list for them
 --     fedRecord, fedListing    a box that an input supplies, and a list for it
+--     ownerRecord              the box that others have for an input
+--     bothRecord, twoFedRecord that box and one that it supplies; two boxes that one input supplies
 use mathlib.Core.Bool.{true, false}
 use mathlib.Core.List.{List, [], _∷_}
-use mathlib.Core.Option.{none}
+use mathlib.Core.Option.{Option, none}
 use Prim.Native.Nat.{ℕ}
 use Rattle.routes.specs.declared.Demand.{Demand}
 use Rattle.routes.specs.declared.Demand.the-variants.{Nothing, Hold}
@@ -73,12 +75,31 @@ pairRecord policies start = writeNetwork version1 (record {
 abbrev pub pairListing : Route → Route → List ℕ
 pairListing a b = writeList version1 (record { id = 1; route = a } ∷ record { id = 2; route = b } ∷ [])
 
--- Input 1 is assumed to hold a route; the wire from it to own box 2 adds 1.
-abbrev pub fedRecord : Route → List ℕ
-fedRecord assumed = writeNetwork version1 (record {
+-- Input 1 is assumed to hold a route; the wire from it to one own box adds 1.
+abbrev pub fedRecord : ℕ → Route → List ℕ
+fedRecord id assumed = writeNetwork version1 (record {
   policies = adds 1 ∷ [];
-  boxes = input (record { id = 1; assumed = assumed }) ∷ plain 2 None Nothing ∷ [];
-  wires = wire 2 1 0 ∷ [];
+  boxes = input (record { id = 1; assumed = assumed }) ∷ plain id None Nothing ∷ [];
+  wires = wire id 1 0 ∷ [];
+})
+
+-- Own box 1 starts with a route and makes a promise or none; no wire leads into it.
+abbrev owner : Option Route → Box Route Demand
+owner promise = own (record { id = 1; initial = held 100 0 1 0; promise = promise; demand = Nothing })
+
+abbrev pub ownerRecord : List Policy → Option Route → List ℕ
+ownerRecord policies promise = writeNetwork version1 (record { policies = policies; boxes = owner promise ∷ []; wires = [] })
+
+-- that box and box 2, with the wire between them
+abbrev pub bothRecord : Option Route → List ℕ
+bothRecord promise = writeNetwork version1 (record { policies = adds 1 ∷ []; boxes = owner promise ∷ plain 2 None Nothing ∷ []; wires = wire 2 1 0 ∷ [] })
+
+-- boxes 2 and 3, both with a wire from input 1
+abbrev pub twoFedRecord : Route → List ℕ
+twoFedRecord assumed = writeNetwork version1 (record {
+  policies = adds 1 ∷ [];
+  boxes = input (record { id = 1; assumed = assumed }) ∷ plain 2 None Nothing ∷ plain 3 None Nothing ∷ [];
+  wires = wire 2 1 0 ∷ wire 3 1 0 ∷ [];
 })
 
 -- the list with this route for box 2

@@ -1,7 +1,7 @@
 -- The words of the statements.
 --     house1                         the house's routes, with costs up to 65,535
 --     Passes                         the judge's answer on two records is a pass
---     cutInto                        the record that a cut leaves in a lent buffer
+--     cutInto, joinInto              the record that a cut, or a join, leaves in a lent buffer
 --     Roomy, SheetCuts               a buffer with room for the largest record; a sheet that cuts a network
 use mathlib.Core.Path.{_≡_}
 use mathlib.Core.List.{List}
@@ -17,6 +17,7 @@ use Rattle.reading.specs.Largest.{largestNetwork}
 use Rattle.judging.specs.Judging.{judgeRecords}
 use Rattle.routes.specs.Carry.{highest}
 use Rattle.cutting.specs.Cutting.{cutRecords, cutBuffer}
+use Rattle.joining.specs.Joining.{joinRecords, joinBuffer}
 
 abbrev pub house1 : Algebra
 house1 = house highest
@@ -27,6 +28,9 @@ Passes network list = (count : ℕ) × (judgeRecords network list ≡ given (pas
 -- As many bytes from the start of the buffer as the cut answers, or its refusal.
 unfoldable pub cutInto : List ℕ → List ℕ → ℕ → List ℕ → Answer (List ℕ)
 cutInto network sheet k out = andThen (cutRecords network sheet k (length out)) (λ (n : ℕ). given (take n (cutBuffer network sheet k out)))
+
+unfoldable pub joinInto : List ℕ → List ℕ → List ℕ → Answer (List ℕ)
+joinInto first second out = andThen (joinRecords first second (length out)) (λ (n : ℕ). given (take n (joinBuffer first second out)))
 
 abbrev pub Roomy : Form → List ℕ → Type 0
 Roomy f out = largestNetwork f ≤ length out

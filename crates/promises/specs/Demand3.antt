@@ -1,4 +1,5 @@
 -- Demand 3: cutting keeps its own algebra. All of it is about bytes, and buffers hold what they hold, with room for the largest record.
+-- Its two statements about the fragments of one cut, joined again (document 02, K3), are in Reunion.
 use mathlib.Core.Path.{_≡_}
 use mathlib.Core.Bool.{true, cond}
 use mathlib.Core.List.{List}

@@ -4,11 +4,14 @@ pub mod Demand1
 pub mod Demand2
 pub mod JudgedCount
 pub mod Demand3
+pub mod Reunion
+pub mod Joins
 pub mod Fragments
 pub mod Silence
 pub mod SameAnswer
 pub mod Suite
 pub mod Answers
+pub mod JoinAnswers
 pub mod Policies
 pub mod Trails
 pub mod Determined

@@ -28,7 +28,7 @@ use Rattle.reading.specs.Whole.{networkOf}
 use Rattle.judging.specs.Judging.{judgeRecords}
 use Rattle.judging.specs.declared.Verdict.the-variants as verdict
 use Rattle.cutting.specs.Cutting.{cutRecords}
-use Rattle.cutting.specs.declared.CutAnswer.the-variants as answer
+use Rattle.outcomes.specs.declared.Outcome.the-variants as outcome
 use Rattle.promises.specs.Suite.{Suite}
 
 -- the refusal of the j-th policy
@@ -71,4 +71,4 @@ module _ (network : List ℕ) where
       → (j : ℕ) × (j ≤ i) × FirstIll j
       × ((list : List ℕ) → Bytes list → s .judge network list ≡ verdict.Refused (illPolicy j))
       × ((sheet : List ℕ) (k : ℕ) (out : List ℕ) → Bytes sheet → k < 256 → Bytes out
-      → (s .cut network sheet k out ≡ answer.Refused (illPolicy j)) × (s .after network sheet k out ≡ out))
+      → (s .cut network sheet k out ≡ outcome.Refused (illPolicy j)) × (s .after network sheet k out ≡ out))

@@ -1,9 +1,9 @@
 -- What the programs promise beside the lines that document 01 gives them: how much of an input counts, and how a script tells one
 -- answer from another.
---     JudgeReads, CutReads, CensusReads, TrailReads     no byte counts that is further back than one behind the longest input
---     inputJudged, inputCut, inputShown                 what is answered to an input
---     JudgePrints, CutWrites, CensusPrints, TrailPrints the output is that answer's, and behind a pass the census
---     JudgeShows, CutShows, TrailShows                  the first byte of the output says which kind of answer it is
+--     JudgeReads, CutReads, CensusReads, TrailReads, JoinReads          no byte counts that is further back than one behind the longest input
+--     inputJudged, inputCut, inputShown, inputJoined                    what is answered to an input
+--     JudgePrints, CutWrites, CensusPrints, TrailPrints, JoinWrites     the output is that answer's, and behind a pass the census
+--     JudgeShows, CutShows, TrailShows, JoinShows                       the first byte of the output says which kind of answer it is
 use mathlib.Core.Path.{_≡_}
 use mathlib.Core.List.{List, [], _∷_, _++_}
 use Prim.Native.Nat.{ℕ, _+_, _≤_}
@@ -25,7 +25,10 @@ use Rattle.counting.specs.Text.{censusOf, behindPass, censusText}
 use Rattle.tracing.specs.Tracing.{showRecords}
 use Rattle.tracing.specs.Text.{shownText, trailText}
 use Rattle.cutting.specs.Cutting.{cutNetwork}
-use Rattle.cutting.specs.Text.{cutOutput, askedOf, behindAsked, cutBound, cutText}
+use Rattle.outcomes.specs.Text.{recordOutput}
+use Rattle.cutting.specs.Text.{askedOf, behindAsked, cutBound, cutText}
+use Rattle.joining.specs.Joining.{joinNetworks}
+use Rattle.joining.specs.Text.{joinBound, joinText}
 
 -- Each program reads no more than one byte over its bound: the output is that of the whole input.
 abbrev pub JudgeReads : List ℕ → Type 0
@@ -41,7 +44,10 @@ CensusReads input = censusText (take (judgeBound + 1) input) ≡ censusText inpu
 abbrev pub TrailReads : List ℕ → Type 0
 TrailReads input = trailText (take (namingBound + 1) input) ≡ trailText input
 
--- An input over the bound is refused with 5, the bound as its place; any other is split and judged, or cut, or its trail shown.
+abbrev pub JoinReads : List ℕ → Type 0
+JoinReads input = joinText (take (joinBound + 1) input) ≡ joinText input
+
+-- An input over the bound is refused with 5, the bound as its place; any other is split and judged, or cut, or its trail shown, or joined.
 abbrev pub inputJudged : List ℕ → Answer (Verdict Route)
 inputJudged input = firstOf ((ltb judgeBound (length input), refused 5 judgeBound) ∷ []) (judgeRecords (firstRecord input) (restOf input))
 
@@ -53,11 +59,17 @@ abbrev pub inputShown : List ℕ → Answer (Shown Route)
 inputShown input = firstOf ((ltb namingBound (length input), refused 5 namingBound) ∷ [])
     (showRecords (firstRecord input) (behindNamed (restOf input)) (namedOf (restOf input)))
 
+abbrev pub inputJoined : List ℕ → Answer HouseNetwork
+inputJoined input = firstOf ((ltb joinBound (length input), refused 5 joinBound) ∷ []) (joinNetworks (firstRecord input) (restOf input))
+
 abbrev pub JudgePrints : List ℕ → Type 0
 JudgePrints input = judgeText input ≡ verdictLine (inputJudged input)
 
 abbrev pub CutWrites : List ℕ → Type 0
-CutWrites input = cutText input ≡ cutOutput (formOf (firstRecord input)) (inputCut input)
+CutWrites input = cutText input ≡ recordOutput (formOf (firstRecord input)) (inputCut input)
+
+abbrev pub JoinWrites : List ℕ → Type 0
+JoinWrites input = joinText input ≡ recordOutput (formOf (firstRecord input)) (inputJoined input)
 
 -- The census begins with the judge's line, and has the counts and the silent boxes behind it on a pass, and otherwise nothing.
 abbrev pub CensusPrints : List ℕ → Type 0
@@ -75,13 +87,16 @@ judgeMark (refused number place) = text "r"
 abbrev pub JudgeShows : List ℕ → Type 0
 JudgeShows input = take 1 (judgeText input) ≡ judgeMark (inputJudged input)
 
--- The cutter's output begins with a zero byte where it is a fragment's record, with an `r` on a refusal.
-abbrev pub cutMark : Answer HouseNetwork → List ℕ
-cutMark (given fragment) = 0 ∷ []
-cutMark (refused number place) = text "r"
+-- The cutter's output, and the joiner's, begins with a zero byte where it is a record, with an `r` on a refusal.
+abbrev pub recordMark : Answer HouseNetwork → List ℕ
+recordMark (given F) = 0 ∷ []
+recordMark (refused number place) = text "r"
 
 abbrev pub CutShows : List ℕ → Type 0
-CutShows input = take 1 (cutText input) ≡ cutMark (inputCut input)
+CutShows input = take 1 (cutText input) ≡ recordMark (inputCut input)
+
+abbrev pub JoinShows : List ℕ → Type 0
+JoinShows input = take 1 (joinText input) ≡ recordMark (inputJoined input)
 
 -- A trail begins with a digit, and what is printed instead of one with an `f` on a finding, with an `r` on a refusal.
 abbrev pub TrailMarked : Answer (Shown Route) → List ℕ → Type 0

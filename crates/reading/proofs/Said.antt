@@ -1,18 +1,19 @@
 -- What a network's bytes say of its boxes and wires, by their places: the tests of the record are the tests of the network read from it.
 --     demand-row                     a box's demand
+--     promise-none, promise-some     a box's promise, by its flag
 --     own-row, input-row             the box in a row
 --     read-ids, read-keys            a box's id and a wire's key
 --     owns-read, has-box-read        a box with an id, and an own one
 --     own-read, sends-read           an own box at all; a wire out of a box
 --     Edge, edge-parts, parts-edge   an edge's test, taken apart and put together
-use mathlib.Core.Path.{_≡_, refl, ap, _∙_}
+use mathlib.Core.Path.{_≡_, refl, sym, ap, _∙_}
 use mathlib.Core.Bool.{Bool, true, false, cond, not, _&&_}
 use mathlib.Core.List.{List}
 use mathlib.Core.Option.{none, some}
 use Prim.Native.Nat.{ℕ, _+_, _≤_, _<_}
 use native.Mathlib.Omega.{arith}
 use lib.Dec.{eqb, leb, ltb}
-use borrow.Author.Tests.{leb-true, ltb-true, not-true, le-leb, lt-ltb}
+use borrow.Author.Tests.{leb-true, ltb-true, not-true, not-false, le-leb, lt-ltb}
 use lib.ListN.{getD}
 use Rattle.lists.specs.All.{any}
 use Rattle.lists.specs.First.{every}
@@ -24,16 +25,17 @@ use Rattle.lists.specs.Stride.{at}
 use Rattle.lists.proofs.Test.{and-l, and-r, cond-ap, cond-same, cond-test}
 use Rattle.lists.proofs.Table.{keys, rowAt, find-rows, any-rows}
 use Rattle.numbers.specs.BigEndian.{u16At}
+use Rattle.routes.specs.Form.{routeAt}
 use Rattle.routes.specs.declared.Demand.{Demand}
 use Rattle.routes.specs.declared.Route.{Route}
 use Rattle.networks.specs.Network.{Box, own, input, Wire, wireKey, boxId, isBox, isOwnBox, hasBox, owns}
 use Rattle.networks.specs.Sound.{sends}
 use Rattle.layout.specs.Form.{nodeWidth}
 use Rattle.layout.specs.Layout.{nodeCount, edgeCount, policyCount, nodePart, edgePart, nodeOffset, edgeOffset}
-use Rattle.nodes.specs.Node.{nodeId, rowOf, ownless, isOwn, demandOf}
+use Rattle.nodes.specs.Node.{nodeId, rowOf, ownless, isOwn, promising, demandOf}
 use Rattle.records.specs.Edge.{edgeTo, edgeFrom, edgePolicy, edgeKey, boxed, owned, endsFormed, edgeFormed, edgeOk}
 use Rattle.layout.specs.declared.Form.{Form}
-use Rattle.reading.specs.Parts.{boxAt, demandAt, wireAt}
+use Rattle.reading.specs.Parts.{boxAt, promiseAt, demandAt, wireAt}
 use Rattle.reading.specs.Rows.{ownIn, inputIn}
 use Rattle.reading.specs.Whole.{HouseNetwork, readNetwork}
 
@@ -53,6 +55,19 @@ demand-row w b o =
     let five : o + 5 + w + w ≡ o + 4 + w + w + 1 = omega arith in
     let seven : o + 7 + w + w ≡ o + 4 + w + w + 3 = omega arith in
     rw (five, seven)
+
+-- the promise of a box by its flag
+module _ (w : ℕ) (b : List ℕ) (o : ℕ) (t : Bool) (e : t ≡ promising w b o) where
+  pub promise-none : t ≡ false → promiseAt w b (o + 3 + w) ≡ none
+  unfolding promising promiseAt
+  promise-none y = let z : not (eqb (getD b (o + 3 + w) 0) 0) ≡ false = sym e ∙ y in rw (not-false (eqb (getD b (o + 3 + w) 0) 0) z)
+
+  pub promise-some : t ≡ true → promiseAt w b (o + 3 + w) ≡ some (routeAt w b (o + 4 + w))
+  unfolding promising promiseAt
+  promise-some y =
+      let z : not (eqb (getD b (o + 3 + w) 0) 0) ≡ true = sym e ∙ y in
+      let four : o + 3 + w + 1 ≡ o + 4 + w = omega arith in
+      rw (not-true (eqb (getD b (o + 3 + w) 0) 0) z, four)
 
 module _ (f : Form) (b : List ℕ) where
   abbrev N : HouseNetwork

@@ -7,9 +7,11 @@
 ghost use Prim.Native.Nat.{_≤_};
 ghost use lib.ListN.{length};
 use counting::census_bytes;
-use cutting::CutAnswer;
 use cutting::cut;
 use cutting::cut_bytes;
+use joining::LONGEST;
+use joining::join;
+use joining::join_bytes;
 use judging::judge_bytes;
 use layout::number_of;
 use lines::Line;
@@ -19,28 +21,36 @@ use numbers::u16_at;
 use numbers::u32_at;
 use numbers::wide;
 use numbers::wide16;
+use outcomes::Outcome;
 use streams::Input;
 use streams::read_input;
 use streams::write_output;
 use tracing::trail_bytes;
 
-// The most bytes of an input and of an answer.
-const ROOM: usize = 65536;
+// The most bytes of an input and of an answer: those of the longest input of all, which is the join's, with a byte more, and of the two
+// lengths before it.
+const ROOM: usize = LONGEST + 5;
 
-// Cuts fragment k into the first room bytes of out. Answers how long the fragment is, or the line that refuses it.
-fn cut_within(network: &[u8], sheet: &[u8], k: u8, out: &mut [u8], room: usize) -> usize
-    requires { ⌜ room ≤ length (now out) ⌝ }
-{
-    match cut(network, sheet, k, &mut out[0..room]) {
-        CutAnswer::Done(length) => length,
-        CutAnswer::Refused(refusal) => {
+// How long the record is that stands at the start of out; or the line that refuses it is put there, number 20 too.
+fn record_or_line(outcome: Outcome, out: &mut [u8]) -> usize {
+    match outcome {
+        Outcome::Done(length) => length,
+        Outcome::Refused(refusal) => {
             let class = refusal.class;
             place_line(Line::Refused(wide(number_of(class)), refusal.place), out)
         }
     }
 }
 
-// The network of a case with a lent buffer ends behind its length, or where the input ends.
+// Cuts fragment k into the first room bytes of out.
+fn cut_within(network: &[u8], sheet: &[u8], k: u8, out: &mut [u8], room: usize) -> usize
+    requires { ⌜ room ≤ length (now out) ⌝ }
+{
+    let outcome = cut(network, sheet, k, &mut out[0..room]);
+    record_or_line(outcome, out)
+}
+
+// The first network of a case with a lent buffer ends behind its length, or where the input ends.
 fn network_end(input: &[u8]) -> usize
     requires { ⌜ 4 ≤ length (now input) ⌝ }
     ensures { λ r. ⌜ (4 ≤ r) × (r ≤ length (now (input .entry))) ⌝ }
@@ -69,6 +79,20 @@ fn cut_lent(input: &[u8], out: &mut [u8]) -> usize
     cut_within(&input[4..end], &input[behind..], input[end], out, room)
 }
 
+// Joins into a lent buffer: the input is the length of the buffer and the length of the first network, two bytes each, and then what the
+// join reads. Where the lengths are missing, so is the answer.
+fn join_lent(input: &[u8], out: &mut [u8]) -> usize
+    requires { ⌜ 65536 ≤ length (now out) ⌝ }
+{
+    if input.len() < 4 {
+        return 0;
+    }
+    let room = wide16(u16_at(input, 0));
+    let end = network_end(input);
+    let outcome = join(&input[4..end], &input[end..], &mut out[0..room]);
+    record_or_line(outcome, out)
+}
+
 // The answer to a case: its length, and the answer itself at the start of out where it fits. A number that calls nothing is
 // answered by a line that no case has, since no refusal is number 0.
 fn answer(call: u8, input: &[u8], out: &mut [u8]) -> usize
@@ -80,6 +104,8 @@ fn answer(call: u8, input: &[u8], out: &mut [u8]) -> usize
         2 => cut_lent(input, out),
         3 => census_bytes(input, out),
         4 => trail_bytes(input, out),
+        5 => join_bytes(input, out),
+        6 => join_lent(input, out),
         _ => place_line(Line::Refused(0, wide(call)), out),
     }
 }

@@ -1,5 +1,6 @@
 -- Laws for other crates.
 pub mod Ordered
+pub mod AlikeLaws
 pub mod Carried
 pub mod Tags
 pub mod RouteCodec

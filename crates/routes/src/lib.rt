@@ -2,11 +2,13 @@
 //
 // What is decided of routes has no `requires`. The readers of bytes ask for the room that they touch, which
 // their callers have tested for the whole record.
+mod alike;
 mod form;
 mod met;
 mod order;
 mod wire;
 
+pub use alike::same_policy;
 pub use form::policy_at;
 pub use form::policy_formed;
 pub use form::route_at;

@@ -1,7 +1,7 @@
--- The network that is laid down where a record's policies are, and boxes and wires at places: its record is the parts, one behind another.
--- Which box or wire a place keeps, if any, is the caller's.
---     Selected              the network that is meant
---     selected-parts        its record
+-- A network with a record's policies: its record is head, policies, nodes and edges, one behind another.
+--     written-parts         whatever its boxes and wires are
+--     Selected              its boxes and wires are at places; which box or wire a place keeps, if any, is the caller's
+--     selected-parts        its record by the places
 use Prim.Native.Nat.{ℕ, suc, _+_, _-_, _*_, _≤_}
 use native.Mathlib.Omega.{arith}
 use mathlib.Core.List.{List, _++_}
@@ -35,19 +35,8 @@ use Rattle.reading.proofs.NetworkBytes.{length-written, length-parts}
 use Rattle.writing.specs.Heads.{countBytes, headBytes, policiesIn, sizeOf}
 use Rattle.writing.specs.Parts.{Parts}
 
-pub record Selected (N : HouseNetwork) (b : List ℕ) (box : ℕ → Option (Box Route Demand)) (n : ℕ) (wire : ℕ → Option Wire) (m : ℕ) : Type 0 where
-  pub policies : N .policies ≡ rows (policyAt b) 13 10 (policyCount b)
-  pub boxes : N .boxes ≡ gathered box n
-  pub wires : N .wires ≡ gathered wire m
-
-module _ (f : Form) (b : List ℕ) (usable : Usable f) (small : Bytes b) (fine : NetworkFine f b) (N : HouseNetwork) (box : ℕ → Option (Box Route Demand)) (n : ℕ)
-    (wire : ℕ → Option Wire) (m : ℕ) (s : Selected N b box n wire m) where
-  abbrev nodeRuns : List ℕ
-  nodeRuns = joined (λ i. laidOption (boxBytes (f .route)) (box i)) n
-
-  abbrev edgeRuns : List ℕ
-  edgeRuns = joined (λ j. laidOption wireBytes (wire j)) m
-
+module _ (f : Form) (b : List ℕ) (usable : Usable f) (small : Bytes b) (fine : NetworkFine f b) (N : HouseNetwork)
+    (same : N .policies ≡ rows (policyAt b) 13 10 (policyCount b)) where
   -- the policies
   policies-there : 10 + policyCount b * 13 ≤ length b
   unfolding policyOffset at
@@ -60,29 +49,34 @@ module _ (f : Form) (b : List ℕ) (usable : Usable f) (small : Bytes b) (fine :
   policies-bytes : laidRows policyBytes (N .policies) ≡ policiesIn b
   unfolding policiesIn policyOk policyOffset
   policies-bytes =
-      ap (laidRows policyBytes) (s .policies)
+      ap (laidRows policyBytes) same
       ∙ rows-forth policy b 10 (policyCount b) policies-there (λ i l. (small, fine .policies i l))
       ∙ ap (λ (k : ℕ). take k (drop 10 b)) part-size
 
   policies-count : length (N .policies) ≡ policyCount b
-  policies-count = ap length (s .policies) ∙ length-rows (policyAt b) 13 10 (policyCount b)
+  policies-count = ap length same ∙ length-rows (policyAt b) 13 10 (policyCount b)
 
-  -- the three parts are the runs
-  parts-bytes : laidRows policyBytes (N .policies) ++ (laidRows (boxBytes (f .route)) (N .boxes) ++ laidRows wireBytes (N .wires)) ≡ policiesIn b ++ (nodeRuns ++ edgeRuns)
-  parts-bytes = rw (policies-bytes, s .boxes, s .wires, gathered-laid (boxBytes (f .route)) box n, gathered-laid wireBytes wire m)
+  abbrev nodePartOf : List ℕ
+  nodePartOf = laidRows (boxBytes (f .route)) (N .boxes)
+
+  abbrev edgePartOf : List ℕ
+  edgePartOf = laidRows wireBytes (N .wires)
+
+  parts-bytes : laidRows policyBytes (N .policies) ++ (nodePartOf ++ edgePartOf) ≡ policiesIn b ++ (nodePartOf ++ edgePartOf)
+  parts-bytes = rw policies-bytes
 
   module _ (size nodes edges : ℕ) (p : nodes ≡ length (N .boxes)) (q : edges ≡ length (N .wires)) (r : size ≡ sizeOf f (policyCount b) nodes edges) where
     long : size ≡ length (writeNetwork f N)
     unfolding sizeOf at policyOffset
     long = r ∙ rw (p, q, ← policies-count) (sym (network-length f (usable .wide) N ∙ omega arith))
 
-    said : suc (suc (suc (suc (suc (length (policiesIn b ++ (nodeRuns ++ edgeRuns))))))) + 1 ≡ size - 4
+    said : suc (suc (suc (suc (suc (length (policiesIn b ++ (nodePartOf ++ edgePartOf))))))) + 1 ≡ size - 4
     said =
         let whole = length-written f (usable .wide) N in
         let parts = sym (ap length parts-bytes) ∙ length-parts f (usable .wide) N in
         omega (arith, long)
 
-    whole : writeNetwork f N ≡ headBytes (f .version) size nodes edges (policyCount b) ++ (policiesIn b ++ (nodeRuns ++ edgeRuns))
+    whole : writeNetwork f N ≡ headBytes (f .version) size nodes edges (policyCount b) ++ (policiesIn b ++ (nodePartOf ++ edgePartOf))
     unfolding writeNetwork headBytes countBytes u16Bytes u32Bytes
     whole = rw (parts-bytes, ← p, ← q, policies-count, said)
 
@@ -90,5 +84,22 @@ module _ (f : Form) (b : List ℕ) (usable : Usable f) (small : Bytes b) (fine :
     unfolding headBytes countBytes u16Bytes u32Bytes
     ten = refl
 
-    pub selected-parts : Parts (writeNetwork f N) size (headBytes (f .version) size nodes edges (policyCount b)) (policiesIn b) nodeRuns edgeRuns
-    selected-parts = record { is = whole; long = long; ten = ten }
+    pub written-parts : Parts (writeNetwork f N) size (headBytes (f .version) size nodes edges (policyCount b)) (policiesIn b) nodePartOf edgePartOf
+    written-parts = record { is = whole; long = long; ten = ten }
+
+pub record Selected (N : HouseNetwork) (b : List ℕ) (box : ℕ → Option (Box Route Demand)) (n : ℕ) (wire : ℕ → Option Wire) (m : ℕ) : Type 0 where
+  pub policies : N .policies ≡ rows (policyAt b) 13 10 (policyCount b)
+  pub boxes : N .boxes ≡ gathered box n
+  pub wires : N .wires ≡ gathered wire m
+
+module _ (f : Form) (b : List ℕ) (usable : Usable f) (small : Bytes b) (fine : NetworkFine f b) (N : HouseNetwork) (box : ℕ → Option (Box Route Demand)) (n : ℕ)
+    (wire : ℕ → Option Wire) (m : ℕ) (s : Selected N b box n wire m) where
+  pub selected-parts : (size nodes edges : ℕ) → nodes ≡ length (N .boxes) → edges ≡ length (N .wires) → size ≡ sizeOf f (policyCount b) nodes edges
+      → Parts (writeNetwork f N) size (headBytes (f .version) size nodes edges (policyCount b)) (policiesIn b)
+      (joined (λ i. laidOption (boxBytes (f .route)) (box i)) n) (joined (λ j. laidOption wireBytes (wire j)) m)
+  selected-parts size nodes edges p q r =
+      let runs : laidRows (boxBytes (f .route)) (N .boxes) ≡ joined (λ i. laidOption (boxBytes (f .route)) (box i)) n =
+      ap (laidRows (boxBytes (f .route))) (s .boxes) ∙ gathered-laid (boxBytes (f .route)) box n in
+      let wired : laidRows wireBytes (N .wires) ≡ joined (λ j. laidOption wireBytes (wire j)) m =
+      ap (laidRows wireBytes) (s .wires) ∙ gathered-laid wireBytes wire m in
+      rw (← runs, ← wired) (written-parts f b usable small fine N (s .policies) size nodes edges p q r)

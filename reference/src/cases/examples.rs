@@ -1,6 +1,6 @@
 //! The example plans next to this package, as a person hands them to the programs.
 
-use crate::call::{Call, CENSUS, TRAIL};
+use crate::call::{Call, CENSUS, JOIN, TRAIL};
 use std::fs;
 use std::path::{Path, PathBuf};
 
@@ -25,14 +25,18 @@ pub enum About {
     Judging,
     Census,
     Trail,
+    Joining,
 }
 
 impl About {
-    /// About the census are its inputs and all those of the plan that shows what it is for.
+    /// About the census are its inputs and all those of the plan that shows what it is for; about
+    /// joining are its inputs and those of networks that were joined or edited.
     pub fn of(path: &Path, call: &Call) -> About {
         let name = path.file_name().and_then(|name| name.to_str());
         let silent = name.is_some_and(|name| name.starts_with("silent-feed."));
+        let made = |name: &str| name.contains(".joined.") || name.contains(".edited.");
         match call.number {
+            number if number == JOIN.number || name.is_some_and(made) => About::Joining,
             number if number == TRAIL.number => About::Trail,
             number if number == CENSUS.number || silent => About::Census,
             _ => About::Judging,

@@ -2,7 +2,7 @@
 
 use super::examples::{self, About};
 use super::{counted, inputs, traced, Stream};
-use crate::call::{Call, CENSUS, CUT, JUDGE, LENT, TRAIL};
+use crate::call::{Call, CENSUS, CUT, JOIN, JUDGE, LENT, TRAIL};
 use crate::damage;
 use crate::form::{Form, VERSION_1};
 use crate::input::Input;
@@ -12,6 +12,7 @@ use crate::random::Random;
 use crate::scene::{self, Scene, Style};
 
 mod by_hand;
+mod joins;
 mod trails;
 
 /// The form of a group's records, how often cases are added, and what adds them.
@@ -21,7 +22,7 @@ type Group = (Form, usize, fn(&mut Stream, Form, &mut Random));
 type Maker = fn(Scene, &mut Random) -> Input;
 
 /// A group's place says what it draws its numbers from, so a new one comes last.
-pub const ALL: [Group; 37] = [
+pub const ALL: [Group; 47] = [
     (VERSION_1, 1, |s, f, _| by_hand::known_plans(s, f)),
     (VERSION_1, 1, |s, f, r| odd_frames(s, &[JUDGE, CUT], f, r)),
     (VERSION_1, 1_000, |s, f, r| small(s, inputs::judge, f, r)),
@@ -65,6 +66,16 @@ pub const ALL: [Group; 37] = [
     (VERSION_1, 10, |s, f, r| middling(s, traced::trail, f, r)),
     (VERSION_1, 1, |s, f, _| trails::largest(s, f)),
     (VERSION_1, 1, |s, _, _| example_plans(s, About::Trail)),
+    (VERSION_1, 1, |s, f, _| by_hand::known_joined(s, f)),
+    (VERSION_1, 1, |s, f, r| odd_frames(s, &[JOIN], f, r)),
+    (VERSION_1, 150, joins::fragments),
+    (VERSION_1, 150, joins::hindered),
+    (VERSION_1, 120, joins::damaged),
+    (VERSION_1, 60, joins::disturbed),
+    (VERSION_1, 100, joins::lent),
+    (VERSION_1, 1, |s, f, _| joins::bounds(s, f)),
+    (VERSION_1, 1, joins::largest),
+    (VERSION_1, 1, |s, _, _| example_plans(s, About::Joining)),
 ];
 
 /// The judge's input or the cutter's.
@@ -171,9 +182,13 @@ fn damaged_twice(stream: &mut Stream, make: Maker, form: Form, random: &mut Rand
     stream.add_parts(&input);
 }
 
-/// Flipped bits, changed bytes, bytes put in, taken out, cut off or added anywhere.
 fn disturbed(stream: &mut Stream, make: Maker, form: Form, random: &mut Random) {
     let input = some_input(make, form, random);
+    disturb(stream, &input, random);
+}
+
+/// Flipped bits, changed bytes, bytes put in, taken out, cut off or added anywhere.
+fn disturb(stream: &mut Stream, input: &Input, random: &mut Random) {
     let mut bytes = input.bytes();
     for _ in 0..random.within(1, 3) {
         let place = random.below(bytes.len().max(1));

@@ -83,8 +83,7 @@ impl<'a> Network<'a> {
 
     pub fn nodes(&self) -> impl ExactSizeIterator<Item = Node<'a>> {
         let form = self.form;
-        let rows = self.nodes.chunks_exact(form.node());
-        rows.map(move |bytes| Node::of(bytes, form))
+        self.node_rows().map(move |bytes| Node::of(bytes, form))
     }
 
     pub fn edges(&self) -> impl ExactSizeIterator<Item = Edge> + 'a {
@@ -103,6 +102,17 @@ impl<'a> Network<'a> {
     pub fn node(&self, row: usize) -> Node<'a> {
         let size = self.form.node();
         Node::of(&self.nodes[row * size..][..size], self.form)
+    }
+
+    /// The nodes as they stand.
+    pub fn node_rows(&self) -> impl ExactSizeIterator<Item = &'a [u8]> {
+        self.nodes.chunks_exact(self.form.node())
+    }
+
+    /// The node that a row's bytes are.
+    #[inline]
+    pub fn read(&self, row: &'a [u8]) -> Node<'a> {
+        Node::of(row, self.form)
     }
 
     pub fn policy_part(&self) -> &'a [u8] {

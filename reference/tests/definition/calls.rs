@@ -1,8 +1,8 @@
-//! Judging, counting, tracing and cutting.
+//! Judging, counting, tracing, cutting and joining.
 
-use super::forms::{both, word, Refused, Rows};
+use super::forms::{both, network, word, Form, Refused, Rows};
 use std::cmp::Reverse;
-use std::collections::BTreeMap;
+use std::collections::{BTreeMap, BTreeSet};
 
 /// Preference, cost, origin, tags.
 type Fields = Option<[u16; 4]>;
@@ -216,10 +216,62 @@ pub fn cut(network: &[u8], asked: u8, sheet: &[u8]) -> Result<Vec<u8>, Refused> 
     let nodes: Vec<u8> = nodes.iter().flat_map(|node| cut.node(node)).collect();
     let kept = |edge: &&&[u8]| cut.inside(word(edge, 0));
     let edges: Vec<&[u8]> = cut.rows.edges.iter().filter(kept).copied().collect();
-    let mut body = vec![network[4]];
+    Ok(record(form, &cut.rows.policies, &nodes, &edges))
+}
+
+/// The record of these parts.
+fn record(form: Form, policies: &[&[u8]], nodes: &[u8], edges: &[&[u8]]) -> Vec<u8> {
+    let mut body = vec![form.version];
     body.extend(((nodes.len() / form.node()) as u16).to_be_bytes());
     body.extend((edges.len() as u16).to_be_bytes());
-    body.push(cut.rows.policies.len() as u8);
-    body.extend([cut.rows.policies.concat(), nodes, edges.concat()].concat());
-    Ok([&(body.len() as u32).to_be_bytes()[..], &body].concat())
+    body.push(policies.len() as u8);
+    body.extend([&policies.concat()[..], nodes, &edges.concat()].concat());
+    [&(body.len() as u32).to_be_bytes()[..], &body].concat()
+}
+
+/// Whether what the one network assumes of a box is what the other says of it: its owner promises just
+/// this, or it is assumed there, too. A network that does not have the box says nothing.
+fn agree(here: &Rows, there: &Rows, id: u16) -> bool {
+    let (Some(node), Some(other)) = (here.find(id), there.find(id)) else {
+        return true;
+    };
+    let (form, assumed) = (here.form, here.form.initial(node));
+    match (node[2], other[2]) {
+        (0, _) => true,
+        (_, 0) => form.flag(other) == 1 && form.promised(other) == assumed,
+        _ => form.initial(other) == assumed,
+    }
+}
+
+/// The two networks as one, id by id and edge by edge.
+pub fn join(first: &[u8], second: &[u8]) -> Result<Vec<u8>, Refused> {
+    let both = [network(first)?, network(second)?];
+    let [one, other] = &both;
+    let nodes = || both.iter().flat_map(|rows| &rows.nodes);
+    let ids: BTreeSet<u16> = nodes().map(|node| word(node, 0)).collect();
+    let edges: BTreeSet<&[u8]> = both.iter().flat_map(|rows| rows.edges.clone()).collect();
+    let twice = |id: &&u16| both.iter().all(|rows| rows.is_own(**id));
+    if let Some(id) = ids.iter().find(twice) {
+        return Err((21, (*id).into()));
+    }
+    let apart = |id: &&u16| !agree(one, other, **id) || !agree(other, one, **id);
+    if let Some(id) = ids.iter().find(apart) {
+        return Err((22, (*id).into()));
+    }
+    if one.policies != other.policies {
+        return Err((23, 0));
+    }
+    for (count, most) in [(ids.len(), one.form.most), (edges.len(), 4_096)] {
+        if count > most {
+            return Err((24, count));
+        }
+    }
+    // An own box before an input: 0 is the lower kind.
+    let stays = |id: u16| nodes().filter(move |node| word(node, 0) == id);
+    let joint = ids.iter().map(|id| stays(*id).min_by_key(|node| node[2]));
+    let joint: Vec<u8> = joint
+        .flat_map(|node| node.expect("a node").to_vec())
+        .collect();
+    let edges: Vec<&[u8]> = edges.into_iter().collect();
+    Ok(record(one.form, &one.policies, &joint, &edges))
 }

@@ -18,10 +18,10 @@ pub fn long(bytes: &[u8]) -> u64 {
 /// network or entries of a sheet or list.
 #[derive(Clone, Copy)]
 pub struct Form {
-    version: u8,
+    pub version: u8,
     pub route: usize,
     tail: usize,
-    most: usize,
+    pub most: usize,
 }
 
 pub const FORMS: [Form; 1] = [Form {
@@ -40,9 +40,14 @@ impl Form {
         10 + 13 * policies + self.node() * nodes + 5 * edges
     }
 
-    /// The two largest records together; `lead` is what an entry has before its route.
-    pub fn largest(self, lead: usize) -> usize {
-        self.network(64, self.most, 4_096) + 7 + (lead + self.route) * self.most
+    /// The largest network.
+    pub fn largest(self) -> usize {
+        self.network(64, self.most, 4_096)
+    }
+
+    /// The largest sheet or list; `lead` is what an entry has before its route.
+    pub fn largest_entries(self, lead: usize) -> usize {
+        7 + (lead + self.route) * self.most
     }
 
     pub fn initial(self, node: &[u8]) -> &[u8] {
@@ -85,8 +90,13 @@ impl<'a> Rows<'a> {
 
     /// The node with an id that some node has.
     pub fn node(&self, id: u16) -> &'a [u8] {
-        let mut nodes = self.nodes.iter();
-        nodes.find(|node| word(node, 0) == id).expect("a node")
+        self.find(id).expect("a node")
+    }
+
+    /// The node with an id, where there is one.
+    pub fn find(&self, id: u16) -> Option<&'a [u8]> {
+        let mut nodes = self.nodes.iter().copied();
+        nodes.find(|node| word(node, 0) == id)
     }
 
     pub fn is_own(&self, id: u16) -> bool {
@@ -186,7 +196,8 @@ fn rows_refusal(rows: &Rows) -> Option<Refused> {
     Some((10, node_place(row)))
 }
 
-fn network(b: &[u8]) -> Result<Rows<'_>, Refused> {
+/// The rows of a sound network, or the first refusal up to 10.
+pub fn network(b: &[u8]) -> Result<Rows<'_>, Refused> {
     let rows = Rows::of(b, network_frame(b)?);
     match rows_refusal(&rows) {
         Some(refused) => Err(refused),

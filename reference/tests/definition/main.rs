@@ -12,11 +12,13 @@ use reference::program::split;
 fn answer(case: &Case) -> Vec<u8> {
     let input = &case.input;
     line(match case.call.name {
-        "judge" => program(input, 2, 0, judge),
-        "cut" => program(input, 3, 1, cut),
-        "lent" => lent(input),
-        "census" => program(input, 2, 0, census),
-        "trail" => program(input, 2, 2, trail),
+        "judge" => program(input, with_entries(2, 0), judge),
+        "cut" => program(input, with_entries(3, 1), cut),
+        "lent" => lent(input, cut),
+        "census" => program(input, with_entries(2, 0), census),
+        "trail" => program(input, with_entries(2, 2), trail),
+        "join" => program(input, two_networks(), calls::join),
+        "lent-join" => lent(input, calls::join),
         other => panic!("{other} is not defined here"),
     })
 }
@@ -24,11 +26,22 @@ fn answer(case: &Case) -> Vec<u8> {
 /// What a call answers to a network and what follows it.
 type Answer = Result<Vec<u8>, Refused>;
 
-/// A program's answer. The most that it reads is the two largest records, the second with this
-/// lead in its entries, and `more` bytes.
-fn program(input: &[u8], lead: usize, more: usize, call: fn(&[u8], &[u8]) -> Answer) -> Answer {
-    let largest = FORMS.map(|form| form.largest(lead)).into_iter().max();
-    let bound = largest.expect("a form") + more;
+/// A network and what follows it, answered.
+type Told = fn(&[u8], &[u8]) -> Answer;
+
+/// The largest network and the largest record with this lead in its entries, and `more` bytes.
+fn with_entries(lead: usize, more: usize) -> usize {
+    let sizes = FORMS.map(|form| form.largest() + form.largest_entries(lead));
+    sizes.into_iter().max().expect("a form") + more
+}
+
+fn two_networks() -> usize {
+    let sizes = FORMS.map(|form| form.largest());
+    2 * sizes.into_iter().max().expect("a form")
+}
+
+/// The answer of a program that reads so many bytes at most.
+fn program(input: &[u8], bound: usize, call: Told) -> Answer {
     if input.len() > bound {
         return Err((5, bound));
     }
@@ -63,10 +76,11 @@ fn cut(network: &[u8], rest: &[u8]) -> Answer {
 }
 
 /// The lengths of the buffer and of the network come first.
-fn lent(input: &[u8]) -> Answer {
+fn lent(input: &[u8], call: Told) -> Answer {
     let (room, length) = (word(input, 0), word(input, 2));
-    let (network, rest) = input[4..].split_at(length.into());
-    match cut(network, rest)? {
+    let plan = &input[4..];
+    let (network, rest) = plan.split_at(plan.len().min(length.into()));
+    match call(network, rest)? {
         bytes if bytes.len() > room.into() => Err((20, bytes.len())),
         bytes => Ok(bytes),
     }
@@ -88,7 +102,7 @@ fn stored_answers_are_those_of_the_definition() {
 fn cases_of_the_judge_counted() {
     for (number, case) in cases::make().cases.iter().enumerate() {
         if case.call.name == JUDGE.name {
-            let counted = line(program(&case.input, 2, 0, census));
+            let counted = line(program(&case.input, with_entries(2, 0), census));
             assert!(counted == CENSUS.answer(&case.input), "case {number}");
         }
     }
@@ -105,7 +119,7 @@ fn cases_of_the_judge_traced() {
         }
         for id in [&list[7..9], &[0, 3]] {
             let input = [network, id, list].concat();
-            let traced = line(program(&input, 2, 2, trail));
+            let traced = line(program(&input, with_entries(2, 2), trail));
             assert!(traced == TRAIL.answer(&input), "case {number}");
         }
     }

@@ -1,7 +1,7 @@
 //! What several tests use.
 #![allow(dead_code)]
 
-use reference::call::{CUT, JUDGE};
+use reference::call::{CUT, JOIN, JUDGE};
 use reference::form::{FORMS, VERSION_1};
 use reference::input::Input;
 use reference::plan::{self, Listed, Noted, Plan};
@@ -58,6 +58,16 @@ pub fn census(plan: &Plan, list: &[Listed]) -> Vec<String> {
 /// The lines of a trail for a plan, the id that names a box, and a list.
 pub fn trail(plan: &Plan, id: u16, list: &[Listed]) -> Vec<String> {
     lines(&Input::trail(plan, id, list).answer())
+}
+
+/// What the join answers to two plans.
+pub fn joined([first, second]: &[Plan; 2]) -> Vec<u8> {
+    Input::join(first, second).answer()
+}
+
+/// What the join answers to two records.
+pub fn join_records(first: &[u8], second: &[u8]) -> Vec<u8> {
+    JOIN.answer(&[first, second].concat())
 }
 
 /// A line is ASCII and ends in its only line feed.

@@ -5,10 +5,10 @@ use Rattle.boundaries.proofs.put_edges.Statement.{statement}
 use Rattle.boundaries.proofs.put_edges.Tie as tie
 
 abbrev Inv-loop : tie.InvT-loop
-Inv-loop out₀ base n o₀ j₀ out o j = (j ≤ n) × (o ≤ base + 5 * j)
+Inv-loop out₀ base first n o₀ j₀ out o j = (j ≤ n) × (o ≤ base + 5 * j)
 
 abbrev μ-loop : tie.MeasureT-loop
-μ-loop out₀ base n o₀ j₀ out o j = n - j
+μ-loop out₀ base first n o₀ j₀ out o j = n - j
 
 loop-holds : tie.Need-loop-holds Inv-loop μ-loop
 loop-holds c = search needs
@@ -24,6 +24,9 @@ add-put-2 c = search needs
 
 add-put-3 : tie.Need-add-put-3 Inv-loop μ-loop
 add-put-3 c = search needs
+
+add-put-4 : tie.Need-add-put-4 Inv-loop μ-loop
+add-put-4 c = search needs
 
 put-requires-2 : tie.Need-put-requires-2 Inv-loop μ-loop
 put-requires-2 c κs = search needs
@@ -54,6 +57,7 @@ put-edges-spec =
     put-requires
     add-put-2
     add-put-3
+    add-put-4
     put-requires-2
     add-o
     add-j

@@ -1,18 +1,18 @@
 -- The boxes of a network by kind and by id.
 --     found, there             for either kind: what the box with an id knows, and each box is the one with its id
 --     own-found, input-found, own-there, input-there     the same for own boxes and for inputs
---     own-rise                 own boxes stand by rising id
+--     own-rise, input-rise     own boxes, and inputs, stand by rising id; find-own, the own box with an id
 --     owned, own-box, own-fact, own-any     from `owns` to the own box, to a box, to what every own box has, and to a test that some own box meets
 use mathlib.Core.Path.{_≡_, refl, sym, ap, _∙_, subst}
 use mathlib.Core.Bool.{Bool, true, false≢true}
-use mathlib.Core.Option.{Option, none, some, Option·none-ne-some, Option·some-injective}
+use mathlib.Core.Option.{Option, none, some, bind, Option·none-ne-some, Option·some-injective}
 use mathlib.Core.List.{filterMap}
 use Prim.Native.Nat.{ℕ}
 use Rattle.lists.specs.All.{All, any}
 use Rattle.lists.proofs.All.{all-map, any-here}
 use Rattle.lists.proofs.Filter.{all-filterMap, filterMap-all}
-use Rattle.lists.specs.Sorted.{Rises}
-use Rattle.lists.proofs.Sorted.{rises-filterMap, find-key, find-all, find-self}
+use Rattle.lists.specs.Sorted.{Rises, find}
+use Rattle.lists.proofs.Sorted.{rises-filterMap, find-filterMap, find-key, find-all, find-self}
 use Rattle.networks.specs.Network.{Own, Input, Box, own, input, Network, boxId, asOwn, asInput, isBox, isOwnBox, ownBoxes, inputs, box, hasBox, owns}
 
 -- one kind of box, and the box that each of the kind is
@@ -49,6 +49,12 @@ module _ {R P D : Type 0} (N : Network R P D) where
 
   pub own-rise : Rises boxId 0 (N .boxes) → Rises (λ (b : Own R D). b .id) 0 (ownBoxes N)
   own-rise = rises-filterMap boxId (λ (b : Own R D). b .id) asOwn (λ v b e. sym (ap boxId (own-only v b e))) 0 (N .boxes)
+
+  pub find-own : Rises boxId 0 (N .boxes) → (i : ℕ) → find (λ (b : Own R D). b .id) i (ownBoxes N) ≡ bind (box N i) asOwn
+  find-own rise i = find-filterMap boxId (λ (b : Own R D). b .id) asOwn (λ v b e. sym (ap boxId (own-only v b e))) i 0 (N .boxes) rise
+
+  pub input-rise : Rises boxId 0 (N .boxes) → Rises (λ (a : Input R). a .id) 0 (inputs N)
+  input-rise = rises-filterMap boxId (λ (a : Input R). a .id) asInput (λ v a e. sym (ap boxId (input-only v a e))) 0 (N .boxes)
 
   pub owned : (i : ℕ) → owns N i ≡ true → (b : Own R D) × (box N i ≡ some (own b)) × (b .id ≡ i)
   owned i t = go (box N i) refl t

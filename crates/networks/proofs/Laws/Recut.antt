@@ -56,7 +56,7 @@ feed-first true false β e = e
 feed-first false α β e = e
 
 -- a note that was promised once is not promised again
-twice-promised : {R : Type 0} (p n : Option R) (l m : Bool) → promised (promised p l n) m n ≡ promised p (l || m) n
+pub twice-promised : {R : Type 0} (p n : Option R) (l m : Bool) → promised (promised p l n) m n ≡ promised p (l || m) n
 twice-promised (some q) n l m = refl
 twice-promised none none true true = refl
 twice-promised none none true false = refl

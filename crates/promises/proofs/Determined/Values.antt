@@ -16,6 +16,7 @@ use Rattle.numbers.proofs.put_zeros.Reads as put-zeros
 use Rattle.numbers.proofs.put_part.Reads as put-part
 use Rattle.routes.proofs.better.Reads as better
 use Rattle.routes.proofs.same.Reads as same
+use Rattle.routes.proofs.same_policy.Reads as same-policy
 use Rattle.routes.proofs.carry.Reads as carry
 use Rattle.routes.proofs.is_met.Reads as is-met
 use Rattle.routes.proofs.route_formed.Reads as route-formed
@@ -65,6 +66,9 @@ one-better κs a r r′ e e′ p q = cc
 
 pub one-same : (κs : Lfts 0) → One (same.Post κs) (λ r e. r)
 one-same κs a r r′ e e′ p q = cc
+
+pub one-same-policy : (κs : Lfts 0) → One (same-policy.Post κs) (λ r e. r)
+one-same-policy κs a r r′ e e′ p q = cc
 
 pub one-carry : (κs : Lfts 0) → One (carry.Post κs) (λ r e. r)
 one-carry κs a r r′ e e′ p q = cc

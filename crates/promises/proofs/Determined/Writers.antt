@@ -1,5 +1,6 @@
 -- One result of each function that lays down a part of a record or of a line: how many bytes, or the offset behind them, and the buffer. Of
--- those that split a program's input: the id that is named, and how many bytes a part of it takes.
+-- those that split a program's input: the id that is named, and how many bytes a part of it takes. Of a record against the room for it: the
+-- outcome.
 use mathlib.Core.List.{List}
 use Prim.Native.Nat.{ℕ}
 use contract.Lifetimes.{Lfts}
@@ -21,6 +22,9 @@ use Rattle.lines.proofs.add_route.Reads as add-route
 use Rattle.lines.proofs.put_line.Reads as put-line
 use Rattle.lines.proofs.put_box.Reads as put-box
 use Rattle.lines.proofs.place_line.Reads as place-line
+use Rattle.outcomes.proofs.laid_in.Reads as laid-in
+use Rattle.outcomes.proofs.place_outcome.Reads as place-outcome
+use Rattle.outcomes.proofs.Outcomes.{one-outcome}
 use Rattle.lines.specs.Written.{Written}
 use Rattle.promises.specs.Determined.{One}
 
@@ -80,3 +84,9 @@ one-put-box κs a r r′ e e′ p q = cc
 
 pub one-place-line : (κs : Lfts 1) → One {B = ℕ × List ℕ} (place-line.Post κs) (λ r e. (r, now (e .1 .0)))
 one-place-line κs a r r′ e e′ p q = cc
+
+pub one-laid-in : (κs : Lfts 0) → One (laid-in.Post κs) (λ r e. r)
+one-laid-in κs a r r′ e e′ p q = one-outcome _ r r′ p q
+
+pub one-place-outcome : (κs : Lfts 1) → One {B = ℕ × List ℕ} (place-outcome.Post κs) (λ r e. (r, now (e .1 .0)))
+one-place-outcome κs a r r′ e e′ p q = cc

@@ -3,9 +3,9 @@
 use crate::cases::Stream;
 use crate::form::Form;
 use crate::input::Input;
-use crate::known;
-use crate::plan::{Listed, Plan};
-use crate::route::{Demand, Policy, Promise};
+use crate::known::{self, feed};
+use crate::plan::{Listed, Node, Plan};
+use crate::route::{Demand, Policy, Promise, Route};
 
 /// The plans of the bench examples.
 pub fn known_plans(stream: &mut Stream, form: Form) {
@@ -97,3 +97,103 @@ pub fn known_traced(stream: &mut Stream, form: Form) {
     each_traced(stream, &known::junction().of(form), &known::junction_list());
     each_traced(stream, &known::fat_tree().of(form), &known::fat_tree_list());
 }
+
+/// The chain's parts, in both orders, as they are and after each of these edits.
+pub fn known_joined(stream: &mut Stream, form: Form) {
+    for edit in EDITS {
+        let mut parts = known::chain_parts().map(|part| part.of(form));
+        edit(&mut parts);
+        let [first, second] = &parts;
+        stream.add_parts(&Input::join(first, second));
+        stream.add_parts(&Input::join(second, first));
+    }
+}
+
+/// Another route than any of the chain's.
+const OTHER: Option<Route> = Some(Route::new(100, 9, 1, 0));
+
+/// In the first part row 1 is box 2, which the second assumes, and row 2 assumes box 3; in the second
+/// row 0 assumes box 2, and row 1 is box 3.
+const EDITS: [fn(&mut [Plan; 2]); 27] = [
+    |_| {},
+    // Owned by both: box 3; boxes 2 and 3; box 3, with box 2 unmatched.
+    |[first, _]| first.nodes[2].own = true,
+    |[first, second]| {
+        first.nodes[2].own = true;
+        second.nodes[0].own = true;
+    },
+    |[first, _]| {
+        first.nodes[2].own = true;
+        first.nodes[1].promise = Promise::Nothing;
+    },
+    // The owner promises nothing, where a route is assumed and where none is.
+    |[first, _]| first.nodes[1].promise = Promise::Nothing,
+    |[first, second]| {
+        first.nodes[1].promise = Promise::Nothing;
+        second.nodes[0].route = None;
+    },
+    // The owner promises another route; none where one is assumed; one where none is; none where none is.
+    |[first, _]| first.nodes[1].promise = Promise::Holds(OTHER),
+    |[first, _]| first.nodes[1].promise = Promise::Holds(None),
+    |[_, second]| second.nodes[0].route = None,
+    |[first, second]| {
+        first.nodes[1].promise = Promise::Holds(None);
+        second.nodes[0].route = None;
+    },
+    // Box 3, which the other part owns; both boxes; both by what is assumed.
+    |[_, second]| second.nodes[1].promise = Promise::Nothing,
+    |[first, second]| {
+        first.nodes[1].promise = Promise::Nothing;
+        second.nodes[1].promise = Promise::Nothing;
+    },
+    |[first, second]| {
+        first.nodes[2].route = OTHER;
+        second.nodes[0].route = OTHER;
+    },
+    // An input of both: the same route, another, none and one, none.
+    |parts| feed(parts, 4, [OTHER, OTHER]),
+    |parts| feed(parts, 4, [OTHER, Some(known::START)]),
+    |parts| feed(parts, 4, [OTHER, None]),
+    |parts| feed(parts, 4, [None, None]),
+    // Two unmatched: an input of both below box 2, or above it.
+    |parts| {
+        feed(parts, 0, [OTHER, None]);
+        parts[0].nodes[1].promise = Promise::Nothing;
+    },
+    |parts| {
+        feed(parts, 9, [OTHER, None]);
+        parts[0].nodes[1].promise = Promise::Nothing;
+    },
+    // An input of one alone.
+    |[first, _]| {
+        first.nodes.push(Node::input(7, OTHER));
+        first.wire(7, 1, 0);
+    },
+    // Policies: one more, another field, another order, another one that no wire uses; the same one.
+    |[_, second]| second.policies.push(Policy::adding(1)),
+    |[first, _]| first.policies[0].set = 1,
+    |[first, second]| {
+        first.policies.push(Policy::adding(2));
+        second.policies.insert(0, Policy::adding(2));
+    },
+    |[first, second]| {
+        first.policies.push(Policy::adding(2));
+        second.policies.push(Policy::adding(3));
+    },
+    |[first, second]| {
+        first.policies.push(Policy::adding(2));
+        second.policies.push(Policy::adding(2));
+    },
+    // An unmatched box and other policies.
+    |[first, second]| {
+        second.nodes[1].promise = Promise::Nothing;
+        first.policies.push(Policy::adding(2));
+    },
+    // No box in common.
+    |[_, second]| {
+        second.nodes[0].id = 8;
+        second.nodes[1].id = 9;
+        second.edges.clear();
+        second.wire(8, 9, 0);
+    },
+];

@@ -1,5 +1,5 @@
--- The parts are sorted into a table of zeros. The record's length decides between 20 and what was laid (rooms).
-use Rattle.cutting.proofs.AnswerLaws.{rooms}
+-- The parts are sorted into a table of zeros. The record's length decides between 20 and what was laid (record-roomed).
+use Rattle.cutting.proofs.AnswerLaws.{record-roomed}
 use Rattle.cutting.proofs.CheckLaws.{tables-whole}
 use borrow.Author.Needs.{needs}
 use Rattle.cutting.proofs.entry.cut_agreed.Statement.{statement}
@@ -17,17 +17,14 @@ classify-rows-requires c κs = search needs
 lay-requires : tie.Need-lay-requires
 lay-requires c κs = ((search tables-whole, search needs), (search tables-whole, search needs))
 
+laid-in-requires : tie.Need-laid-in-requires
+laid-in-requires c κs = search needs
+
 same-length : tie.Need-same-length
 same-length c = search needs
 
 returns : tie.Need-returns
-returns c = (search rooms, search needs)
-
-same-length-2 : tie.Need-same-length-2
-same-length-2 c = search needs
-
-returns-2 : tie.Need-returns-2
-returns-2 c = (search rooms, search needs)
+returns c = (search record-roomed, search needs)
 
 pub cut-agreed-spec : {M : Type 1} → statement M
 cut-agreed-spec =
@@ -37,7 +34,6 @@ cut-agreed-spec =
     cast-n
     classify-rows-requires
     lay-requires
+    laid-in-requires
     same-length
-    returns
-    same-length-2
-    returns-2)
+    returns)

@@ -64,6 +64,18 @@ enum-told-19 c = search needs
 enum-told-20 : tie.Need-enum-told-20
 enum-told-20 c = search needs
 
+enum-told-21 : tie.Need-enum-told-21
+enum-told-21 c = search needs
+
+enum-told-22 : tie.Need-enum-told-22
+enum-told-22 c = search needs
+
+enum-told-23 : tie.Need-enum-told-23
+enum-told-23 c = search needs
+
+enum-told-24 : tie.Need-enum-told-24
+enum-told-24 c = search needs
+
 returns : tie.Need-returns
 returns c = search number-is
 
@@ -124,6 +136,18 @@ returns-19 c = search number-is
 returns-20 : tie.Need-returns-20
 returns-20 c = search number-is
 
+returns-21 : tie.Need-returns-21
+returns-21 c = search number-is
+
+returns-22 : tie.Need-returns-22
+returns-22 c = search number-is
+
+returns-23 : tie.Need-returns-23
+returns-23 c = search number-is
+
+returns-24 : tie.Need-returns-24
+returns-24 c = search number-is
+
 pub number-of-spec : {M : Type 1} → statement M
 number-of-spec =
     tie.close
@@ -148,6 +172,10 @@ number-of-spec =
     enum-told-18
     enum-told-19
     enum-told-20
+    enum-told-21
+    enum-told-22
+    enum-told-23
+    enum-told-24
     returns
     returns-2
     returns-3
@@ -167,4 +195,8 @@ number-of-spec =
     returns-17
     returns-18
     returns-19
-    returns-20)
+    returns-20
+    returns-21
+    returns-22
+    returns-23
+    returns-24)
