@@ -35,9 +35,8 @@ impl Route {
         self.0 as u16
     }
 
-    /// The four comparisons as one number, higher is better: the fields stand in the order in
-    /// which they are compared, and cost, origin and tags, of which the lower wins, are turned
-    /// round.
+    /// Decisions 2 to 5 as one number, higher is better: the fields stand in the order in which
+    /// they are compared, and cost, origin and tags, of which the lower wins, are turned round.
     const fn rank(self) -> u64 {
         self.0 ^ 0x0000_ffff_ffff_ffff
     }
@@ -55,7 +54,7 @@ impl std::fmt::Debug for Route {
     }
 }
 
-/// The better of two routes; any route is better than none.
+/// The better of two routes; any route is better than none, which is decision 1.
 pub fn better(one: Option<Route>, other: Option<Route>) -> Option<Route> {
     if other.map(Route::rank) > one.map(Route::rank) {
         other

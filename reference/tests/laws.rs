@@ -193,21 +193,48 @@ fn lists_that_agree_get_the_same_answer() {
     }
 }
 
-/// The four comparisons, one after the other.
+/// The five decisions, one under the other.
 fn beats(one: Option<Route>, other: Option<Route>) -> bool {
-    let (Some(a), Some(b)) = (one, other) else {
-        return one.is_some() && other.is_none();
+    // 1 present
+    let Some(a) = one else {
+        return false;
     };
+    let Some(b) = other else {
+        return true;
+    };
+    // 2 preference
     if a.preference() != b.preference() {
         return a.preference() > b.preference();
     }
+    // 3 cost
     if a.cost() != b.cost() {
         return a.cost() < b.cost();
     }
+    // 4 origin
     if a.origin() != b.origin() {
         return a.origin() < b.origin();
     }
+    // 5 tags
     a.tags() < b.tags()
+}
+
+/// Of each pair the first is better by the decision with its number: those above it say nothing,
+/// and all those below it say the opposite.
+#[test]
+fn each_decision_before_those_below() {
+    let held = |preference, cost, origin, tags| Some(Route::new(preference, cost, origin, tags));
+    let decided = [
+        (held(0, 9, 9, 9), None),
+        (held(2, 9, 9, 9), held(1, 0, 0, 0)),
+        (held(1, 4, 9, 9), held(1, 5, 0, 0)),
+        (held(1, 4, 7, 9), held(1, 4, 8, 0)),
+        (held(1, 4, 7, 2), held(1, 4, 7, 3)),
+    ];
+    for (one, other) in decided {
+        assert!(beats(one, other) && !beats(other, one));
+        assert_eq!(better(one, other), one);
+        assert_eq!(better(other, one), one);
+    }
 }
 
 #[test]

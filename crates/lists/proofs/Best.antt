@@ -1,19 +1,22 @@
 -- The best of two.
---     decide-..     one decision, over what the decisions below it say
---     Order         what a test must keep for the best of a set to be one value
---     best-..       the best of two, and its laws
+--     decide-..          one decision, over what the decisions below it say
+--     Order              what a test must keep for the best of a set to be one value
+--     decided-..         decisions one under the other, and the order that they are where they tell all values apart
+--     undecided-self     no decision tells a value from itself
+--     best-..            the best of two, and its laws
 use mathlib.Core.Path.{_≡_, refl, sym, _∙_}
 use mathlib.Core.Bool.{Bool, true, false, cond, false≢true}
+use mathlib.Core.List.{List, [], _∷_}
 use mathlib.Core.Logic.{_⊎_, inl, inr}
 use Prim.Native.Nat.{ℕ, _<_}
 use native.Mathlib.Omega.{arith}
 use lib.Dec.{eqb, ltb}
 use borrow.Author.Tests.{eqb-true, eqb-false, ltb-true, ltb-false, lt-ltb, le-ltb, ne-eqb, eq-eqb}
-use Rattle.lists.specs.Best.{best}
+use Rattle.lists.specs.Best.{Decision, lower, higher, decided, undecided, best}
 
 -- one decision, over what the decisions below it say
 module _ (a b : ℕ) (r s : Bool) where
-  pub decide-once : (r ≡ true → s ≡ false) → cond (eqb a b) r (ltb a b) ≡ true → cond (eqb b a) s (ltb b a) ≡ false
+  decide-once : (r ≡ true → s ≡ false) → cond (eqb a b) r (ltb a b) ≡ true → cond (eqb b a) s (ltb b a) ≡ false
   decide-once f = go (eqb a b) refl
     where
       go : (t : Bool) → eqb a b ≡ t → cond t r (ltb a b) ≡ true → cond (eqb b a) s (ltb b a) ≡ false
@@ -22,7 +25,7 @@ module _ (a b : ℕ) (r s : Bool) where
           let l : a < b = ltb-true a b e in
           rw (ne-eqb b a (λ z. eqb-false a b q (sym z))) (le-ltb b a (omega arith))
 
-  pub decide-none : cond (eqb a b) r (ltb a b) ≡ false → cond (eqb b a) s (ltb b a) ≡ false → (a ≡ b) × (r ≡ false) × (s ≡ false)
+  decide-none : cond (eqb a b) r (ltb a b) ≡ false → cond (eqb b a) s (ltb b a) ≡ false → (a ≡ b) × (r ≡ false) × (s ≡ false)
   decide-none = go (eqb a b) refl
     where
       go : (t : Bool) → eqb a b ≡ t → cond t r (ltb a b) ≡ false → cond (eqb b a) s (ltb b a) ≡ false → (a ≡ b) × (r ≡ false) × (s ≡ false)
@@ -32,7 +35,7 @@ module _ (a b : ℕ) (r s : Bool) where
       go false q e k = absurd (eqb-false a b q
           (let g = ltb-false a b e in let h = ltb-false b a (rw (ne-eqb b a (λ z. eqb-false a b q (sym z))) at k) in omega arith))
 
-pub decide-on : (a b c : ℕ) (r s t : Bool) → (r ≡ true → s ≡ true → t ≡ true)
+decide-on : (a b c : ℕ) (r s t : Bool) → (r ≡ true → s ≡ true → t ≡ true)
     → cond (eqb a b) r (ltb a b) ≡ true → cond (eqb b c) s (ltb b c) ≡ true → cond (eqb a c) t (ltb a c) ≡ true
 decide-on a b c r s t f = go (eqb a b) refl (eqb b c) refl
   where
@@ -56,6 +59,40 @@ pub record Order {A : Type 0} (beats : A → A → Bool) : Type 0 where
   pub once : (x y : A) → beats x y ≡ true → beats y x ≡ false
   pub on : (x y z : A) → beats x y ≡ true → beats y z ≡ true → beats x z ≡ true
   pub same : (x y : A) → beats x y ≡ false → beats y x ≡ false → x ≡ y
+
+module _ {A : Type 0} where
+  decided-once : (ds : List (Decision A)) (x y : A) → decided ds x y ≡ true → decided ds y x ≡ false
+  decided-once [] x y e = refl
+  decided-once (lower number ∷ rest) x y e = decide-once (number x) (number y) (decided rest x y) (decided rest y x) (decided-once rest x y) e
+  decided-once (higher number ∷ rest) x y e = decide-once (number y) (number x) (decided rest x y) (decided rest y x) (decided-once rest x y) e
+
+  decided-on : (ds : List (Decision A)) (x y z : A) → decided ds x y ≡ true → decided ds y z ≡ true → decided ds x z ≡ true
+  decided-on [] x y z e f = e
+  decided-on (lower number ∷ rest) x y z e f =
+      decide-on (number x) (number y) (number z) (decided rest x y) (decided rest y z) (decided rest x z) (decided-on rest x y z) e f
+  decided-on (higher number ∷ rest) x y z e f =
+      decide-on (number z) (number y) (number x) (decided rest y z) (decided rest x y) (decided rest x z) (λ p q. decided-on rest x y z q p) f e
+
+  decided-none : (ds : List (Decision A)) (x y : A) → decided ds x y ≡ false → decided ds y x ≡ false → undecided ds x y ≡ true
+  decided-none [] x y e f = refl
+  decided-none (lower number ∷ rest) x y e f =
+      let p = decide-none (number x) (number y) (decided rest x y) (decided rest y x) e f in
+      rw (eq-eqb (number x) (number y) (p .0)) (decided-none rest x y (p .1) (p .2))
+  decided-none (higher number ∷ rest) x y e f =
+      let p = decide-none (number y) (number x) (decided rest x y) (decided rest y x) e f in
+      rw (eq-eqb (number x) (number y) (sym (p .0))) (decided-none rest x y (p .1) (p .2))
+
+  pub undecided-self : (ds : List (Decision A)) (x : A) → undecided ds x x ≡ true
+  undecided-self [] x = refl
+  undecided-self (lower number ∷ rest) x = rw (eq-eqb (number x) (number x) refl) (undecided-self rest x)
+  undecided-self (higher number ∷ rest) x = rw (eq-eqb (number x) (number x) refl) (undecided-self rest x)
+
+  pub decided-order : (ds : List (Decision A)) → ((x y : A) → undecided ds x y ≡ true → x ≡ y) → Order (decided ds)
+  decided-order ds apart = record {
+    once = decided-once ds;
+    on = decided-on ds;
+    same = λ x y e f. apart x y (decided-none ds x y e f);
+  }
 
 module _ {A : Type 0} (beats : A → A → Bool) where
   pub best-selective : (x y : A) → (best beats x y ≡ x) ⊎ (best beats x y ≡ y)

@@ -8,6 +8,7 @@ mod met;
 mod order;
 mod wire;
 
+pub use alike::same;
 pub use alike::same_policy;
 pub use form::policy_at;
 pub use form::policy_formed;
@@ -15,7 +16,6 @@ pub use form::route_at;
 pub use form::route_formed;
 pub use met::is_met;
 pub use order::better;
-pub use order::same;
 pub use wire::HIGHEST;
 pub use wire::carry;
 

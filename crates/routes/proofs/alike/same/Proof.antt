@@ -1,8 +1,8 @@
 -- One law for each pair of cases.
-use Rattle.routes.proofs.OrderLaws.{equality}
+use Rattle.routes.proofs.SameLaws.{equality}
 use borrow.Author.Needs.{needs}
-use Rattle.routes.proofs.order.same.Statement.{statement}
-use Rattle.routes.proofs.order.same.Tie as tie
+use Rattle.routes.proofs.alike.same.Statement.{statement}
+use Rattle.routes.proofs.alike.same.Tie as tie
 
 enum-told : tie.Need-enum-told
 enum-told c = search needs

@@ -1,8 +1,8 @@
 -- One law for each field in which the two may differ.
-use Rattle.routes.proofs.OrderLaws.{comparing}
+use Rattle.routes.proofs.SameLaws.{comparing}
 use borrow.Author.Needs.{needs}
-use Rattle.routes.proofs.order.equal.Statement.{statement}
-use Rattle.routes.proofs.order.equal.Tie as tie
+use Rattle.routes.proofs.alike.equal.Statement.{statement}
+use Rattle.routes.proofs.alike.equal.Tie as tie
 
 returns : tie.Need-returns
 returns c = search (needs, comparing)
