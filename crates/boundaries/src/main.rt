@@ -1,6 +1,8 @@
 // The greatest records that are read and the least that are not, each made in a buffer, checked, and printed with the
 // number and the place of its refusal, or 0 and 0; and joins: the greatest joint networks that are given, with 0 and the record's length, and
 // the least that are refused. What is small is proved in the definitions of `records` instead.
+#![tactic(auto)]
+
 ghost use Rattle.std.specs.Prelude.{◌+◌, ◌≤◌};
 
 use joining::join;

@@ -1,4 +1,6 @@
 // One own box and the wires into it: where they stand, what its due route starts from, what each wire gives it, and its first fault.
+#![tactic(auto)]
+
 mod own;
 mod wires;
 

@@ -1,5 +1,7 @@
 // The counting program: reads a network record and then a route list record from standard input, and prints the judge's line and, behind
 // a pass, the census.
+#![tactic(auto)]
+
 ghost use Rattle.std.specs.Prelude.{◌≤◌, ◌<◌, length};
 ghost use Rattle.streams.specs.Answers.{Answers};
 ghost use Rattle.judging.specs.Text.{judge_bound};

@@ -2,6 +2,8 @@
 // Those about the greatest counts are run by `boundaries`.
 //
 // Standard input has the chain's network and the sheet that cuts it 1, 2 | 3.
+#![tactic(auto)]
+
 ghost use Rattle.std.specs.Prelude.{◌≤◌, length};
 
 use cutting::cut;

@@ -1,5 +1,7 @@
 // Counting: what a pass carried. The judge's line, and behind a pass how many boxes hold a route, how many of the assumed and the
 // promised ones are routes, how many boxes were asked for one, and which hold none though nobody asked for it.
+#![tactic(auto)]
+
 mod counts;
 mod entry;
 mod text;

@@ -1,5 +1,7 @@
 // The cutting program: reads a network record, the number of a fragment and a sheet record from standard input, and writes the
 // fragment's record, or the line of a refusal.
+#![tactic(auto)]
+
 ghost use Rattle.std.specs.Prelude.{◌≤◌, ◌<◌, length};
 ghost use Rattle.streams.specs.Answers.{Answers};
 ghost use Rattle.cutting.specs.Text.{cut_text, cut_bound};

@@ -1,4 +1,6 @@
 // Cutting: one fragment of a network, laid down in a lent buffer; and what the cutting program writes.
+#![tactic(auto)]
+
 mod entry;
 mod text;
 

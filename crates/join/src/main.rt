@@ -1,5 +1,7 @@
 // The joining program: reads two network records from standard input, and writes the record of the joint network, or the line of a
 // refusal.
+#![tactic(auto)]
+
 ghost use Rattle.std.specs.Prelude.{◌≤◌, ◌<◌, length};
 ghost use Rattle.streams.specs.Answers.{Answers};
 ghost use Rattle.joining.specs.Text.{join_text, join_bound};

@@ -1,4 +1,6 @@
 // Joining: two networks laid down as one in a lent buffer; and what the joining program writes. No public function has a `requires`.
+#![tactic(auto)]
+
 mod entry;
 mod text;
 mod whole;

@@ -1,4 +1,6 @@
 // The judging program: reads a network record and then a route list record from standard input, and prints the judge's line.
+#![tactic(auto)]
+
 ghost use Rattle.std.specs.Prelude.{◌≤◌, ◌<◌, length};
 ghost use Rattle.streams.specs.Answers.{Answers};
 ghost use Rattle.judging.specs.Text.{judge_text, judge_bound};

@@ -1,4 +1,6 @@
 // Judging: the first fault of a proposal by rising id, or a pass; and the line that says it.
+#![tactic(auto)]
+
 mod entry;
 mod first_fault;
 mod text;

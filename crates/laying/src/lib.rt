@@ -2,6 +2,8 @@
 // a row is laid; the bytes of the pieces are `writing`'s.
 //
 // It asks for two records that a check has not refused and for the tables of `marking`.
+#![tactic(auto)]
+
 mod parts;
 mod rows;
 mod whole;

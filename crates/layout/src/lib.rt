@@ -1,6 +1,8 @@
 // The frame of every record: its form, where its parts stand, and the classes by which it is refused.
 //
 // The functions on offsets ask for a form that is used and for the ten bytes that hold the counts.
+#![tactic(auto)]
+
 mod forms;
 mod largest;
 mod offsets;

@@ -4,6 +4,8 @@
 // The archive that `rt staticlib library` writes has the functions below under their own names, by C's calling convention;
 // a slice is handed over as a pointer and a length (c/lnianotka.h). No function has a `requires`: a caller in
 // another language owes no more than what the types say.
+#![tactic(auto)]
+
 ghost use Rattle.std.specs.Prelude.{◌≡◌, length};
 ghost use Rattle.lists.specs.Laid.{placed};
 ghost use Rattle.layout.specs.Form.{widest};

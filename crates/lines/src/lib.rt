@@ -3,6 +3,8 @@
 // A text of any number of words and lines is put into a lent room word behind word (`words`). Where the room ends first, what
 // is behind its end is left out and the text's length is answered all the same: so a text is measured with a room of no bytes,
 // and then put where it fits (`place_line`).
+#![tactic(auto)]
+
 
 mod answer;
 mod split;

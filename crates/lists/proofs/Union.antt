@@ -36,7 +36,7 @@ module _ {A : Type 0} (key : A → ℕ) where
           → x ∷ xs ≡ y ∷ ys
       go true p t q r = absurd (none-ne-some _ (sym (find_low key (key x) (key y) (y ∷ ys) (ltb-true (key x) (key y) p) (omega arith, k.1)) ∙ sym (f (key x)) ∙ find_head x xs))
       go false p true q r = absurd (none-ne-some _ (sym (find_low key (key y) (key x) (x ∷ xs) (ltb-true (key y) (key x) q) (omega arith, h.1)) ∙ f (key y) ∙ find_head y ys))
-      go false p false q r = ap₂ ◌∷◌ (some-injective _ _ (sym (find_head x xs) ∙ f (key x) ∙ rw e (find_head y ys))) (r ys (rw e k.1) part)
+      go false p false q r = ap₂ ◌∷◌ (some-injective _ _ (sym (find_head x xs) ∙ f (key x) ∙ ap (λ (n : ℕ). find key n (y ∷ ys)) e ∙ find_head y ys)) (r ys (rw e k.1) part)
         where
           e : key x ≡ key y
           e = omega (arith, ltb-false (key x) (key y) p, ltb-false (key y) (key x) q)

@@ -2,6 +2,8 @@
 // leave, and what the fragment keeps of each row. Numbers 18 and 19 are found on the way.
 //
 // The functions ask for records that a check has not refused.
+#![tactic(auto)]
+
 mod fragments;
 mod marks;
 mod notes;

@@ -2,6 +2,8 @@
 // by its table from ids to rows.
 //
 // It asks for two records of one form that a check has not refused.
+#![tactic(auto)]
+
 mod policies;
 mod rows;
 

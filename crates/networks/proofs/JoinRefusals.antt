@@ -21,7 +21,7 @@ use Rattle.networks.proofs.Laws.JoinRows.{table_none, none_table, table_some, so
 
 module _ (𝓐 : Algebra) (telling : Telling 𝓐) (B : Bounds) (N M : NetworkOver 𝓐) (sound : Sound B N) (sound' : Sound B M) where
   open 𝓐 use {Route, Demand}
-  open telling use {alike, alike_true, Alike_self}
+  open telling use {alike, alike_true, alike_self}
 
   row_21 : Finds (OwnedTwice 𝓐 N M) (lowest (λ (b : Own Route Demand). owns M b.id) (own_boxes N))
   row_21 = finds_twice 𝓐 N M sound.boxes_rise
@@ -36,9 +36,9 @@ module _ (𝓐 : Algebra) (telling : Telling 𝓐) (B : Bounds) (N M : NetworkOv
       (λ h. let once = row_21.missed h.0 in
       ⊎_elim (λ k. at 22 k.0 place refl (assumption place once (row_22.found place k.1)))
       (λ k. let matches = row_22.missed k.0 in
-      ⊎_elim (λ l. let f = table_some alike alike_true Alike_self N.policies M.policies place l.1 in
+      ⊎_elim (λ l. let f = table_some alike alike_true alike_self N.policies M.policies place l.1 in
       at 23 l.0 0 f.1 (tables once matches f.0))
-      (λ l. let table = table_none alike alike_true Alike_self N.policies M.policies l.0 in
+      (λ l. let table = table_none alike alike_true alike_self N.policies M.policies l.0 in
       ⊎_elim (λ m. let f = over_some B.boxes (length (joining N M).boxes) place m.1 in
       at 24 m.0 (length (joining N M).boxes) f.1 (too_many_boxes once matches table f.0))
       (λ m. let within = over_none B.boxes (length (joining N M).boxes) m.0 in
@@ -59,19 +59,19 @@ module _ (𝓐 : Algebra) (telling : Telling 𝓐) (B : Bounds) (N M : NetworkOv
   says_refusal n place (owned_twice i h) = rw (finds_some _ _ row_21 i h) refl
   says_refusal n place (assumption i once h) = rw (finds_none _ _ row_21 once, finds_some _ _ row_22 i h) refl
   says_refusal n place (tables once matches h) =
-      rw (finds_none _ _ row_21 once, finds_none _ _ row_22 matches, some_table alike alike_true Alike_self N.policies M.policies h) refl
+      rw (finds_none _ _ row_21 once, finds_none _ _ row_22 matches, some_table alike alike_true alike_self N.policies M.policies h) refl
   says_refusal n place (too_many_boxes once matches table h) =
       rw (
         finds_none _ _ row_21 once,
         finds_none _ _ row_22 matches,
-        none_table alike alike_true Alike_self N.policies M.policies table,
+        none_table alike alike_true alike_self N.policies M.policies table,
         lt-ltb B.boxes (length (joining N M).boxes) h,
       ) refl
   says_refusal n place (too_many_wires once matches table h k) =
       rw (
         finds_none _ _ row_21 once,
         finds_none _ _ row_22 matches,
-        none_table alike alike_true Alike_self N.policies M.policies table,
+        none_table alike alike_true alike_self N.policies M.policies table,
         le-ltb B.boxes (length (joining N M).boxes) h,
         lt-ltb B.wires (length (joining N M).wires) k,
       ) refl

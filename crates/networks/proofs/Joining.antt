@@ -92,7 +92,7 @@ alike_comm {A} alike same self xs ys = same_test (all_alike alike xs ys) (all_al
 
 module _ (𝓐 : Algebra) (telling : Telling 𝓐) (B : Bounds) where
   open 𝓐 use {Route, Demand}
-  open telling use {alike, alike_true, Alike_self}
+  open telling use {alike, alike_true, alike_self}
 
   -- the places of 21 and 22 are the same from either side
   module _ (N M : NetworkOver 𝓐) (rise : Rises box_id 0 N.boxes) (rise' : Rises box_id 0 M.boxes) where
@@ -112,8 +112,8 @@ module _ (𝓐 : Algebra) (telling : Telling 𝓐) (B : Bounds) where
       let once = none_once N M (same_21 N M sound.boxes_rise sound'.boxes_rise ∙ a) in
       same_row 22 _ _ _ _ (same_22 N M sound.boxes_rise sound'.boxes_rise) (λ b.
       let all_matched = matched_all 𝓐 N M (lower_none (unmatched 𝓐 M N) (unmatched 𝓐 N M) b).1 in
-      same_row 23 _ _ _ _ (ap (λ (t : Bool). cond t none (some 0)) (alike_comm alike alike_true Alike_self N.policies M.policies)) (λ c.
-      let table = table_none alike alike_true Alike_self M.policies N.policies c in
+      same_row 23 _ _ _ _ (ap (λ (t : Bool). cond t none (some 0)) (alike_comm alike alike_true alike_self N.policies M.policies)) (λ c.
+      let table = table_none alike alike_true alike_self M.policies N.policies c in
       same_row 24 _ _ _ _ (ap (λ (vs : List (Box Route Demand)). over_bound B.boxes (length vs)) (boxes_comm 𝓐 B N M sound sound' once all_matched)) (λ d.
       same_row 24 _ _ _ _ (ap (λ (ws : List Wire). over_bound B.wires (length ws)) (wires_comm B N M sound sound' once)) (λ e.
       ap given (joining_swap 𝓐 B N M sound sound' once all_matched (sym table)))))))

@@ -18,9 +18,9 @@ use Rattle.lists.specs.Test.{first_applying}
 
 -- A network's own promise stays. Without one the note is promised where a cut wire leaves, and otherwise nothing.
 abbrev pub promised : {R : Type 0} → Option R → Bool → Option R → Option R
-promised (some q) left note = some q
-promised none true note = note
-promised none false note = none
+promised (some q) left noted = some q
+promised none true noted = noted
+promised none false noted = none
 
 -- the set of one number
 abbrev pub only : ℕ → ℕ → Bool
@@ -82,7 +82,7 @@ module _ (𝓐 : Algebra) where
 
   -- a promise that is not the note
   abbrev pub off_note : Option Route → Option Route → Bool
-  off_note none note = false
+  off_note none noted = false
   off_note (some q) none = true
   off_note (some q) (some n) = not (same q n)
 

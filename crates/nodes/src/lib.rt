@@ -1,6 +1,8 @@
 // Policies and nodes as bytes: whether they are well formed, and what they hold.
 //
 // The functions ask for the room that they touch, which a check has tested for the whole record.
+#![tactic(auto)]
+
 mod nodes;
 mod policies;
 

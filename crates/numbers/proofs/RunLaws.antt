@@ -1,18 +1,20 @@
 -- Runs of bytes, as the code looks at them and stores them.
 --     or-none, Zeroed, zeroing   what the loop over a run of zeros knows
 --     zeros-put                  the loop that stores a run of zeros, at its end
---     part-long, part-stored     a part of another slice, copied into a lent rest
+--     part_long, part_stored     a part of another slice, copied into a lent rest
+--     part_put                   a part of another slice, copied over a part that is as long
 use mathlib.Core.Path.{◌≡◌, refl, sym, ap, ◌∙◌}
 use mathlib.Core.Bool.{Bool, ◌&&◌}
-use mathlib.Core.List.{List, ◌++◌}
+use mathlib.Core.List.{List, ◌++◌, append_assoc}
 use Prim.Native.Nat.{ℕ, zero, suc, ◌+◌, ◌-◌, ◌≤◌}
 use native.Mathlib.Nat.{not-suc-le-zero}
 use native.Mathlib.Omega.{arith}
 use lib.Bits.{bit_and, bit_or, or_add_and, and_le_r}
 use lib.Dec.{eqb}
 use lib.ListN.{length, get_or, take, drop, replicate, length-drop}
-use lib.Seq.{sets, length-take-le}
+use lib.Seq.{sets, length-take-le, sets-eq, drop-drop}
 use borrow.Author.Tests.{ne_eqb}
+use borrow.Rule.Slice.PartMut.{put_mid}
 use Rattle.lists.proofs.First.{every_yes, every_next}
 use Rattle.lists.proofs.Laid.{copy_stored}
 use Rattle.numbers.specs.Zeros.{zeros}
@@ -59,3 +61,17 @@ part_stored out back s at a n m h g e f =
     let same : a + n - a ≡ n = omega arith in
     let long = part_long s a n h in
     copy_stored out back (take n (drop a s)) at m (rw same at e) (omega arith) (rw same at f)
+
+-- what a copy of a part over a part that is as long leaves
+pub part_put : (out back s : List ℕ) (at a n : ℕ) → a + n ≤ length s → at + n ≤ length out → back ≡ take (a + n - a) (drop a s)
+    → put_mid at (at + n - at) out back ≡ sets out at (take n (drop a s))
+part_put out back s at a n h g e =
+    let same : a + n - a ≡ n = omega arith in
+    let stays : at + n - at ≡ n = omega arith in
+    let long = part_long s a n h in
+    let part = take n (drop a s) in
+    let fits : at + length part ≤ length out = omega (arith, long) in
+    ap (λ (k : ℕ). put_mid at k out back) stays
+    ∙ ap (λ (l : List ℕ). put_mid at n out l) (rw same at e)
+    ∙ ap (λ (l : List ℕ). take at out ++ (part ++ l)) (drop-drop n at out ∙ ap (λ (k : ℕ). drop k out) (let k : at + n ≡ at + length part = omega (arith, long) in k))
+    ∙ sym (sets-eq part out at fits ∙ append_assoc (take at out) part (drop (at + length part) out))

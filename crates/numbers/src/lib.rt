@@ -2,6 +2,8 @@
 //
 // The readers and writers of a record's numbers ask for the room that they touch: their callers have tested the whole
 // record before, and a second test at each number would only cost time. `wide`, `wide16` and `one_if` have no `requires`.
+#![tactic(auto)]
+
 mod counting;
 mod runs;
 

@@ -35,5 +35,5 @@ pub fn put_part(out: &mut [u8], at: usize, src: &[u8], a: usize, n: usize)
     ensures { out.new ≡ sets out.old at (take n (drop a src.now)) }
 {
     let end = a + n;
-    bytes::copy(&src[a..end], &mut out[at..]);
+    out[at..at + n].copy_from_slice(&src[a..end]);
 }

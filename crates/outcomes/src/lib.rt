@@ -1,4 +1,6 @@
 // Outcomes: what a call that lays a network record over the start of a lent buffer answers, and what a program writes of it.
+#![tactic(auto)]
+
 mod text;
 
 ghost use Rattle.std.specs.Prelude.{◌≡◌};

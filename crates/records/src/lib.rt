@@ -3,6 +3,8 @@
 //
 // The checks have no `requires` but for the table that is lent with zeros. What reads a part of a record asks for a record
 // that a check has not refused.
+#![tactic(auto)]
+
 mod edges;
 mod entered;
 mod network;

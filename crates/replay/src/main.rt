@@ -4,6 +4,8 @@
 // A case is one byte, the number of a call, the input's length as four bytes, and the input. Its answer is the output's length as
 // four bytes, and the output. What each number calls is said in 'answer' and nowhere else. Where a read or a write fails, that is said and the
 // run ends.
+#![tactic(auto)]
+
 ghost use Rattle.std.specs.Prelude.{◌≤◌, length};
 
 use counting::census_bytes;

@@ -2,6 +2,8 @@
 //
 // What is decided of routes has no `requires`. The readers of bytes ask for the room that they touch, which
 // their callers have tested for the whole record.
+#![tactic(auto)]
+
 mod alike;
 mod form;
 mod met;

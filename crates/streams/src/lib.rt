@@ -3,6 +3,8 @@
 // Where a call of C's fails, these functions say so on standard error, in words that their caller gives, so that no program can fail in
 // silence. No contract can say which bytes such a call moves: those here say how many there is room for, and what a program owes for the
 // bytes that were read is said by `Answers`.
+#![tactic(auto)]
+
 ghost use Rattle.std.specs.Prelude.{◌-◌, ◌≤◌, length};
 ghost use Rattle.streams.specs.Input.{Within, Moves};
 

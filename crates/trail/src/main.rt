@@ -1,5 +1,7 @@
 // The tracing program: reads a network record, a box's id of two bytes and then a route list record from standard input, and prints the
 // trail back from that box, or the judge's line: of a record or an id that is refused, or of a list that fails.
+#![tactic(auto)]
+
 ghost use Rattle.std.specs.Prelude.{◌≤◌, ◌<◌, length};
 ghost use Rattle.streams.specs.Answers.{Answers};
 ghost use Rattle.judging.specs.Text.{naming_bound};

@@ -3,6 +3,8 @@
 // The writers know nothing of why a part is laid. They ask for the room of what they lay, and those that copy a part of
 // another record ask that it is well formed there. Proofs/Parts has the law by which a caller that lays head, policies,
 // nodes and edges one behind another has written a network.
+#![tactic(auto)]
+
 mod heads;
 mod rows;
 

@@ -32,7 +32,7 @@ module _ (𝓐 : Algebra) where
   open 𝓐 use {Route, Policy, Demand}
 
   module _ (telling : Telling 𝓐) (B : Bounds) (N M : NetworkOver 𝓐) where
-    open telling use {alike, alike_true, Alike_self}
+    open telling use {alike, alike_true, alike_self}
 
     pub joined_fitting : (F : NetworkOver 𝓐) → join 𝓐 telling B N M ≡ given F → Fitting 𝓐 B N M × (joining N M ≡ F)
     unfolding join
@@ -47,7 +47,7 @@ module _ (𝓐 : Algebra) where
             own_once = none_once N M a.0;
             first_matched = matched_all 𝓐 N M m.0;
             second_matched = matched_all 𝓐 M N m.1;
-            one_table = table_none alike alike_true Alike_self N.policies M.policies c.0;
+            one_table = table_none alike alike_true alike_self N.policies M.policies c.0;
             boxes_within = over_none B.boxes (length (joining N M).boxes) d.0;
             wires_within = over_none B.wires (length (joining N M).wires) f.0;
           },

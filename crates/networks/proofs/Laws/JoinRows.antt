@@ -98,7 +98,7 @@ pub none_once : {R P D : Type 0} (N M : Network R P D) → lowest (λ (b : Own R
 none_once {R} {P} {D} N M e i t = own_fact N (λ (j : ℕ). owns M j ≡ false) i (lowest_none (λ (b : Own R D). owns M b.id) (own_boxes N) e) t
 
 -- 23
-module _ {A : Type 0} (alike : A → A → Bool) (alike_true : (x y : A) → alike x y ≡ true → x ≡ y) (Alike_self : (x : A) → alike x x ≡ true)
+module _ {A : Type 0} (alike : A → A → Bool) (alike_true : (x y : A) → alike x y ≡ true → x ≡ y) (alike_self : (x : A) → alike x x ≡ true)
     (xs ys : List A) where
   pub table_none : cond {A = Option ℕ} (all_alike alike xs ys) none (some 0) ≡ none → xs ≡ ys
   table_none e = all_alike_true alike alike_true xs ys (go (all_alike alike xs ys) e)
@@ -108,7 +108,7 @@ module _ {A : Type 0} (alike : A → A → Bool) (alike_true : (x y : A) → ali
       go false q = absurd (some-ne-none _ q)
 
   pub none_table : xs ≡ ys → all_alike alike xs ys ≡ true
-  none_table e = subst (λ (zs : List A). all_alike alike xs zs ≡ true) e (all_alike_self alike Alike_self xs)
+  none_table e = subst (λ (zs : List A). all_alike alike xs zs ≡ true) e (all_alike_self alike alike_self xs)
 
   pub table_some : (place : ℕ) → cond {A = Option ℕ} (all_alike alike xs ys) none (some 0) ≡ some place → (xs ≡ ys → ⊥) × (0 ≡ place)
   table_some place e = go (all_alike alike xs ys) refl e
