@@ -9,7 +9,7 @@ use routes::Route;
 pub use wires::{first_wire, offer, over_wire, wire_behind, wire_into};
 
 // What is wrong at one box, first the due route, then the promise, then the demand.
-#[derive(Drop)]
+#[derive(Clone, Copy)]
 pub enum Fault {
     NoFault,
     FaultDue(Route),
@@ -18,7 +18,7 @@ pub enum Fault {
 }
 
 // An own box with its initial route.
-#[derive(Drop)]
+#[derive(Clone, Copy)]
 pub struct OwnBox {
     pub node: u16,
     pub initial: Route,
@@ -26,7 +26,7 @@ pub struct OwnBox {
 
 // The wire that is looked at next: its offset, and its to end, which is read once. Behind the last wire the to end is 65,536,
 // which is no id.
-#[derive(Drop)]
+#[derive(Clone, Copy)]
 pub struct NextWire {
     pub at: usize,
     pub to: usize,

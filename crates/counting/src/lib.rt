@@ -9,7 +9,7 @@ mod text;
 pub use entry::{LONGEST_CENSUS, census, census_bytes, longest_census};
 
 // What is counted of a network's nodes under a list.
-#[derive(Drop)]
+#[derive(Clone, Copy)]
 pub enum Counted {
     // own boxes that hold a route
     Holding,
@@ -26,7 +26,7 @@ pub enum Counted {
 }
 
 // The counts of a census.
-#[derive(Drop)]
+#[derive(Clone, Copy)]
 pub struct Tally {
     // own boxes, and those that hold a route
     pub boxes: usize,

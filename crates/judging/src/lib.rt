@@ -12,7 +12,7 @@ use routes::Route;
 pub use text::{LONGEST, LONGEST_NAMING, judge_bytes, longest_input, longest_naming, verdict_line};
 
 // What is named of a box with a fault: the judged count includes it.
-#[derive(Drop)]
+#[derive(Clone, Copy)]
 pub struct Finding {
     pub node: u16,
     pub count: usize,
@@ -20,7 +20,7 @@ pub struct Finding {
 }
 
 // The judge's answer: all own boxes judged, the first fault with the route that document 01 gives with it, or a refusal.
-#[derive(Drop)]
+#[derive(Clone, Copy)]
 pub enum Verdict {
     Pass(usize),
     NotDue(Finding),

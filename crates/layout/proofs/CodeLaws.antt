@@ -14,28 +14,28 @@ use Rattle.layout.specs.Layout.{entry_offset, policy_offset, node_offset, edge_o
 use Rattle.layout.specs.Form.{node_width, entry_width, form_of, formed, versioned}
 use Rattle.layout.specs.Refusals.{number_of}
 
-pub entry_offset : (f : Form) (lead i r : ℕ) → r ≡ at 7 (lead + f.route) i → r ≡ entry_offset f lead i
+pub entry_offset_lem : (f : Form) (lead i r : ℕ) → r ≡ at 7 (lead + f.route) i → r ≡ entry_offset f lead i
 unfolding entry_offset entry_width
-entry_offset f lead i r e = e
+entry_offset_lem f lead i r e = e
 
-pub policy_offset : (i : ℕ) → 10 + 13 * i ≡ policy_offset i
+pub policy_offset_lem : (i : ℕ) → 10 + 13 * i ≡ policy_offset i
 unfolding policy_offset at
-policy_offset i = omega arith
+policy_offset_lem i = omega arith
 
-pub node_part : (b : List ℕ) (p r : ℕ) → p ≡ get_or b 9 0 → r ≡ policy_offset p → r ≡ node_part b
-node_part b p r e h = rw (← e) h
+pub node_part_lem : (b : List ℕ) (p r : ℕ) → p ≡ get_or b 9 0 → r ≡ policy_offset p → r ≡ node_part b
+node_part_lem b p r e h = rw (← e) h
 
-pub node_width : (f : Form) → 9 + f.route + f.route ≡ node_width f
+pub node_width_lem : (f : Form) → 9 + f.route + f.route ≡ node_width f
 unfolding node_width
-node_width f = refl
+node_width_lem f = refl
 
-pub node_offset : (f : Form) (b : List ℕ) (part size i r : ℕ) → part ≡ node_part b → size ≡ node_width f → r ≡ at part size i → r ≡ node_offset f b i
+pub node_offset_lem : (f : Form) (b : List ℕ) (part size i r : ℕ) → part ≡ node_part b → size ≡ node_width f → r ≡ at part size i → r ≡ node_offset f b i
 unfolding node_offset
-node_offset f b part size i r e w h = rw (← e, ← w) h
+node_offset_lem f b part size i r e w h = rw (← e, ← w) h
 
-pub edge_offset : (f : Form) (b : List ℕ) (n part i r : ℕ) → n ≡ u16_at b 5 → part ≡ node_offset f b n → r ≡ at part 5 i → r ≡ edge_offset f b i
+pub edge_offset_lem : (f : Form) (b : List ℕ) (n part i r : ℕ) → n ≡ u16_at b 5 → part ≡ node_offset f b n → r ≡ at part 5 i → r ≡ edge_offset f b i
 unfolding edge_offset
-edge_offset f b n part i r c e h = rw (← c, ← e) h
+edge_offset_lem f b n part i r c e h = rw (← c, ← e) h
 
 pub total_of : (f : Form) (b : List ℕ) (n r : ℕ) → n ≡ u16_at b 7 → r ≡ edge_offset f b n → r ≡ total f b
 total_of f b n r c h = rw (← c) h

@@ -19,7 +19,7 @@ pub use refusals::number_of;
 
 // What the version of a record decides: its version byte, the bytes of a route, and the greatest number of nodes and of
 // entries.
-#[derive(Drop)]
+#[derive(Clone, Copy)]
 pub struct Form {
     pub version: u8,
     pub route: usize,
@@ -27,7 +27,7 @@ pub struct Form {
 }
 
 // The classes of refusal, in the order of their numbers.
-#[derive(Drop)]
+#[derive(Clone, Copy)]
 pub enum Class {
     Short,
     Version,
@@ -58,21 +58,21 @@ pub enum Class {
 }
 
 // Why a call is refused, and where: the place is an offset, a length, an id, a number asked or a count, as the table has it.
-#[derive(Drop)]
+#[derive(Clone, Copy)]
 pub struct Refusal {
     pub class: Class,
     pub place: usize,
 }
 
 // The form that a record's version byte names, if it names one.
-#[derive(Drop)]
+#[derive(Clone, Copy)]
 pub enum Formed {
     Of(Form),
     Unknown,
 }
 
 // What a check of a record finds: nothing, and the record has this form; or why it is refused.
-#[derive(Drop)]
+#[derive(Clone, Copy)]
 pub enum Check {
     Fine(Form),
     Refused(Refusal),

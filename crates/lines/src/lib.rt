@@ -16,7 +16,7 @@ pub use split::{first_length, named_id, named_length};
 pub use words::{add_numbers, add_route, put_number, put_word};
 
 // An answer of one line: `pass JUDGED`, `refused NUMBER PLACE`, `found NUMBER NODE JUDGED` and the route.
-#[derive(Drop)]
+#[derive(Clone, Copy)]
 pub enum Line {
     Pass(usize),
     Refused(usize, usize),

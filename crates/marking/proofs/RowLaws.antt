@@ -50,9 +50,9 @@ module _ (f : Form) (network sheet found : List ℕ) (i : ℕ) (l : i < node_cou
     note_entry g = omega arith
 
     module _ (at : ℕ) (q : at ≡ entry_offset f sheet_lead entry) where
-      pub note_offset : at + 3 ≡ note_offset f found i
+      pub note_offset_lem : at + 3 ≡ note_offset f found i
       unfolding note_offset
-      note_offset = rw (q, e)
+      note_offset_lem = rw (q, e)
 
       pub note_room : CheckedEntries f sheet_lead sheet → at + 3 + f.route ≤ length sheet
       note_room s = let h = entry_room f sheet_lead sheet s.room entry (rw e entry_there) in omega arith
@@ -90,4 +90,4 @@ module _ (f : Form) (network sheet found : List ℕ) (i : ℕ) (l : i < node_cou
   unfolding piece_in
   other_piece k d = ap (piece N S (only k)) (own_box f network i ours) ∙ rw (ne_eqb (number S (node_id f network i)) k d, noted)
 
-pub ruleset noting = (index_small, note_entry, note_offset, note_room, note_sum)
+pub ruleset noting = (index_small, note_entry, note_offset_lem, note_room, note_sum)

@@ -51,9 +51,9 @@ module _ (f : Form) (b : List ℕ) (c : CheckedNetwork f b) (p : ℕ) where
     pub front_row : p < n → p < node_count b
     front_row l = omega arith
 
-    pub front_id : p < n → (x y : ℕ) → x ≡ y → y ≡ node_id f b p → x ≡ front_id f b p
+    pub front_id_lem : p < n → (x y : ℕ) → x ≡ y → y ≡ node_id f b p → x ≡ front_id f b p
     unfolding front_id
-    front_id l x y q r = rw (lt-ltb p (node_count b) (omega arith)) (q ∙ r)
+    front_id_lem l x y q r = rw (lt-ltb p (node_count b) (omega arith)) (q ∙ r)
 
     pub front_none : n ≤ p → 65536 ≡ front_id f b p
     unfolding front_id
@@ -69,7 +69,7 @@ module _ (f : Form) (b : List ℕ) (c : CheckedNetwork f b) (p : ℕ) where
       let sound = and_r (leb (least (node_id f b) p) (node_id f b p)) (node_formed f.route b (node_offset f b p)) (c.sound.nodes p l) in
       record { usable = c.room.usable; bytes = c.bytes; there = rw e (node_room f b c.room p l); formed = rw e sound }
 
-pub ruleset id_fronts = (front_row, front_id, front_none, id_low)
+pub ruleset id_fronts = (front_row, front_id_lem, front_none, id_low)
 
 -- a node's kind is there
 pub kind_there : (f : Form) (b : List ℕ) (o : ℕ) → NodeAt f b o → o + 2 < length b

@@ -41,7 +41,7 @@ fn put_run(form: Form, b: &[u8], p: usize, k: usize, out: &mut [u8]) -> usize
 }
 
 // How many edges of each network went by in a turn of the merge.
-#[derive(Drop)]
+#[derive(Clone, Copy)]
 struct Gone {
     first: usize,
     second: usize,

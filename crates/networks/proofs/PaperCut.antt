@@ -35,7 +35,7 @@ paper_cut 𝓐 B N S k sound cuts =
       transfers = trans_at_lem 𝓐 N S k;
       assumptions = λ u. (at_every N S k formed entered u).ass_at;
       guarantees = λ u. (at_every N S k formed entered u).guar_at;
-      demands = λ u. (at_every N S k formed entered u).demand_at;
+      demands = λ u. (at_every N S k formed entered u).demand_at_lem;
       policies = refl;
     }
 

@@ -108,9 +108,9 @@ module _ (w : ℕ) (b : List ℕ) (o : ℕ) where
   unfolding demand_of
   asks_hold c t p q r = rw (p, q, r)
 
-  pub asks_none : (get_or b (o + 4 + w + w) 0 ≡ 0 → ⊥) → (get_or b (o + 4 + w + w) 0 ≡ 1 → ⊥) → HoldNone ≡ demand_of w b o
+  pub asks_none_lem : (get_or b (o + 4 + w + w) 0 ≡ 0 → ⊥) → (get_or b (o + 4 + w + w) 0 ≡ 1 → ⊥) → HoldNone ≡ demand_of w b o
   unfolding demand_of
-  asks_none p q = rw (ne_eqb _ _ p, ne_eqb _ _ q)
+  asks_none_lem p q = rw (ne_eqb _ _ p, ne_eqb _ _ q)
 
 pub ruleset kinds = (kind_own, kind_promising, kind_input, kind_other)
 
@@ -122,7 +122,7 @@ pub ruleset owning = (own_yes, own_no)
 
 pub ruleset promised = (promising_no, promising_yes)
 
-pub ruleset asked = (asks_nothing, asks_hold, asks_none)
+pub ruleset asked = (asks_nothing, asks_hold, asks_none_lem)
 
 pub ruleset node_forms = (node_kind, node_route, node_promise, node_demand)
 

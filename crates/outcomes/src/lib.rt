@@ -11,7 +11,7 @@ use layout::{Class, Refusal};
 pub use text::place_outcome;
 
 // The length of the record that stands at the start of the buffer, or a refusal, with the buffer as it was.
-#[derive(Drop)]
+#[derive(Clone, Copy)]
 pub enum Outcome {
     Done(usize),
     Refused(Refusal),

@@ -47,16 +47,16 @@ module _ (f : Form) (network list : List ℕ) where
 
   -- the box in a row
   module _ (rising : Rising (node_id f network) (node_count network)) (i : ℕ) (l : i < node_count network) where
-    box_in : box N (node_id f network i) ≡ some (box_at f.route network (node_offset f network i))
+    box_in_lem : box N (node_id f network i) ≡ some (box_at f.route network (node_offset f network i))
     unfolding boxed node_offset
-    box_in =
+    box_in_lem =
         read_find f network (node_id f network i)
         ∙ rw (row_boxed f network (node_id f network i) i rising l refl, row_is f network (node_id f network i) i rising l refl)
 
     pub mapping_own : is_own f network i ≡ true → mapping (house highest) N L (node_id f network i) ≡ held (house highest) L (node_id f network i)
     unfolding mapping box_at is_own node_id
-    mapping_own q = ap (λ (o : Option (Box Route Demand)). get_or (route_of L o) None) box_in ∙ rw q
+    mapping_own q = ap (λ (o : Option (Box Route Demand)). get_or (route_of L o) None) box_in_lem ∙ rw q
 
     pub mapping_input : is_own f network i ≡ false → mapping (house highest) N L (node_id f network i) ≡ route_at f.route network (node_offset f network i + 3)
     unfolding mapping box_at is_own
-    mapping_input q = ap (λ (o : Option (Box Route Demand)). get_or (route_of L o) None) box_in ∙ rw q
+    mapping_input q = ap (λ (o : Option (Box Route Demand)). get_or (route_of L o) None) box_in_lem ∙ rw q

@@ -98,20 +98,20 @@ module _ (f : Form) (enough : 9 ≤ f.route) where
     pub parts_counted : parts_length ≡ length N.policies * 13 + length N.boxes * (9 + f.route + f.route) + length N.wires * 5
     parts_counted = rw (length_policies, length_boxes, length_wires)
 
-    pub node_part : node_part W ≡ 10 + length (policy_part N)
+    pub node_part_lem : node_part W ≡ 10 + length (policy_part N)
     unfolding policy_offset at
-    node_part = rw (policy_count_lem, length_policies) (omega arith)
+    node_part_lem = rw (policy_count_lem, length_policies) (omega arith)
 
     pub edge_part_lem : edge_part f W ≡ 10 + length (policy_part N) + length (box_part N)
     unfolding node_offset at node_width
-    edge_part_lem = rw (node_part, node_count_lem, length_boxes) (omega arith)
+    edge_part_lem = rw (node_part_lem, node_count_lem, length_boxes) (omega arith)
 
     read_policies : All PolicyFits N.policies → rows (policy_at W) 13 10 (policy_count W) ≡ N.policies
     read_policies h = rw policy_count_lem (rows_in policy N.policies head (box_part N ++ wire_part N) W 10 written refl h)
 
     read_boxes : All BoxFits N.boxes → rows (box_at f.route W) (node_width f) (node_part W) (node_count W) ≡ N.boxes
     unfolding node_width
-    read_boxes h = rw node_count_lem (rows_in (box f.route enough) N.boxes (head ++ policy_part N) (wire_part N) W (node_part W) written (let e = node_part in omega arith) h)
+    read_boxes h = rw node_count_lem (rows_in (box f.route enough) N.boxes (head ++ policy_part N) (wire_part N) W (node_part W) written (let e = node_part_lem in omega arith) h)
 
     read_wires : All WireFits N.wires → rows (wire_at W) 5 (edge_part f W) (edge_count W) ≡ N.wires
     read_wires h = rw edge_count_lem (rows_in wire N.wires (head ++ (policy_part N ++ box_part N)) [] W (edge_part f W)

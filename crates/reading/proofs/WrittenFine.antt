@@ -41,7 +41,7 @@ use Rattle.reading.proofs.BoxCodec.{box}
 use Rattle.reading.proofs.RowCodecs.{wire}
 use Rattle.reading.proofs.Said.{read_ids, read_keys, owns_read, has_box_read, own_read, sends_read, Edge, parts_edge}
 use Rattle.reading.proofs.ReadSound.{some_own_boxes}
-use Rattle.reading.proofs.NetworkBytes.{NetworkFits, policy_part, box_part, wire_part, head, written, node_count_lem, edge_count_lem, policy_count_lem, node_part, edge_part_lem, length_wires, parts_length, length_parts, length_written, parts_counted, read_written}
+use Rattle.reading.proofs.NetworkBytes.{NetworkFits, policy_part, box_part, wire_part, head, written, node_count_lem, edge_count_lem, policy_count_lem, node_part_lem, edge_part_lem, length_wires, parts_length, length_parts, length_written, parts_counted, read_written}
 use Rattle.layout.proofs.OneForm.{version_test}
 
 length_any : {A : Type 0} (xs : List A) → 0 < length xs → any (λ (x : A). true) xs ≡ true
@@ -74,9 +74,9 @@ module _ (f : Form) (b : List ℕ) (frame : Framed f b)
     length_rows (policy_at b) 13 10 (policy_count b),
   )
 
-  node_ok : (i : ℕ) → i < node_count b → node_ok f b i ≡ true
+  node_ok_lem : (i : ℕ) → i < node_count b → node_ok f b i ≡ true
   unfolding node_ok read_network
-  node_ok i l = and_i _ _
+  node_ok_lem i l = and_i _ _
       (le-leb _ _ (least_ext _ _ (read_ids f b) i (rows_rise box_id (box_at f.route b) (node_width f) (node_part b) (node_count b) sound.boxes_rise i l)))
       (nodes i l)
 
@@ -99,9 +99,9 @@ module _ (f : Form) (b : List ℕ) (frame : Framed f b)
   edge_ok_lem j l = parts_edge f b j (edge_facts j l)
 
   -- a row that is no own box's is an input's, and a wire leads out of it
-  input_ok : (i : ℕ) → i < node_count b → input_ok f b i ≡ true
+  input_ok_lem : (i : ℕ) → i < node_count b → input_ok f b i ≡ true
   unfolding input_ok left_by is_own node_id node_offset read_network
-  input_ok i l = go (eqb (get_or b (at (node_part b) (node_width f) i + 2) 0) 0) refl
+  input_ok_lem i l = go (eqb (get_or b (at (node_part b) (node_width f) i + 2) 0) 0) refl
     where
       o : ℕ
       o = at (node_part b) (node_width f) i
@@ -123,10 +123,10 @@ module _ (f : Form) (b : List ℕ) (frame : Framed f b)
     said = frame.said;
     whole = frame.whole;
     policies = policies;
-    nodes = node_ok;
+    nodes = node_ok_lem;
     own = some_own;
     edges = edge_ok_lem;
-    inputs = input_ok;
+    inputs = input_ok_lem;
   }
 
 -- the bytes that are written
@@ -198,7 +198,7 @@ module _ (f : Form) (usable : Usable f) (N : HouseNetwork) (sound : Sound (bound
   unfolding node_offset node_width
   nodes_formed i l =
       (rows_made (box f.route enough) N.boxes (head f enough N ++ policy_part f enough N) (wire_part f enough N) W (node_part W)
-      (written f enough N) (let e = node_part f enough N in omega arith) fits.boxes_fit small_written i (rw (← node_count_lem f enough N) l)).1
+      (written f enough N) (let e = node_part_lem f enough N in omega arith) fits.boxes_fit small_written i (rw (← node_count_lem f enough N) l)).1
 
   -- none of 1 to 10 applies to what is written
   pub written_fine : NetworkFine f W

@@ -66,8 +66,8 @@ policy_there p h = λ i. record {
 abbrev pub PolicyFormed : List ℕ → ℕ → Type 0
 PolicyFormed b o = Bytes b × (policy_formed b o ≡ true)
 
-pub policy_formed : (b : List ℕ) (o : ℕ) → PolicyFormed b o → seven.Formed b o
-policy_formed b o h =
+pub policy_formed_lem : (b : List ℕ) (o : ℕ) → PolicyFormed b o → seven.Formed b o
+policy_formed_lem b o h =
     let z = h.0 in (
       (z o, z (o + 1)),
       (
@@ -148,7 +148,7 @@ policy_made b o p h z formed e = (z, and_i (preference_formed b (o + 8)) (leb 1 
     go false q = rw (flag, q, preference, h.4 q)
 
 abbrev pub policy_parts : Codec Policy
-policy_parts = named seven to_policy of_policy PolicyFits PolicyFormed policy_fits policy_there policy_formed policy_here policy_made
+policy_parts = named seven to_policy of_policy PolicyFits PolicyFormed policy_fits policy_there policy_formed_lem policy_here policy_made
 
 pub policy_bytes_lem : (p : Policy) → policy_bytes p ≡ policy_parts.bytes p
 unfolding policy_bytes u16_bytes

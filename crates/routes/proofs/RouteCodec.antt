@@ -147,13 +147,13 @@ module _ (w : ℕ) where
         go true e k l = zeros_all b (o + 1) (w - 1) e k (omega arith)
         go false e k l = zeros_all b (o + 1) (w - 9) (and_r (eqb (get_or b o 0) 1) (zeros b (o + 1) (w - 9)) e) k l
 
-    pub route_formed : (b : List ℕ) (o : ℕ) → RouteFormed b o → parts.Formed b o
-    route_formed b o h = (tt, (route_gap b o h.1, fields_formed b (o + 1 + (w - 9)) h.0))
+    pub route_formed_lem : (b : List ℕ) (o : ℕ) → RouteFormed b o → parts.Formed b o
+    route_formed_lem b o h = (tt, (route_gap b o h.1, fields_formed b (o + 1 + (w - 9)) h.0))
 
     -- the fields behind a zero present byte are zeros
-    no_fields : (b : List ℕ) (o : ℕ) → zeros b (o + 1) (w - 1) ≡ true → fields_at b (o + 1 + (w - 9)) ≡ no_fields
+    no_fields_lem : (b : List ℕ) (o : ℕ) → zeros b (o + 1) (w - 1) ≡ true → fields_at b (o + 1 + (w - 9)) ≡ no_fields
     unfolding fields_at
-    no_fields b o e = fields_ext _ _ (rw add-zero at (number 0 (omega arith))) (number 2 (omega arith)) (number 4 (omega arith)) (number 6 (omega arith))
+    no_fields_lem b o e = fields_ext _ _ (rw add-zero at (number 0 (omega arith))) (number 2 (omega arith)) (number 4 (omega arith)) (number 6 (omega arith))
       where
         number : (j : ℕ) → j + 1 < 8 → u16_at b (o + 1 + (w - 9) + j) ≡ 0
         number j l =
@@ -166,7 +166,7 @@ module _ (w : ℕ) where
       where
         go : (t : Bool) → eqb (get_or b o 0) 0 ≡ t → cond t (zeros b (o + 1) (w - 1)) (eqb (get_or b o 0) 1 && zeros b (o + 1) (w - 9)) ≡ true
             → of_route (cond t None (Held (fields_at b (o + 1 + (w - 9))))) ≡ (get_or b o 0, (tt, fields_at b (o + 1 + (w - 9))))
-        go true q e = λ i. (sym (eqb-true (get_or b o 0) 0 q) i, (tt, sym (no_fields b o e) i))
+        go true q e = λ i. (sym (eqb-true (get_or b o 0) 0 q) i, (tt, sym (no_fields_lem b o e) i))
         go false q e = λ i. (sym (eqb-true (get_or b o 0) 1 (and_l (eqb (get_or b o 0) 1) (zeros b (o + 1) (w - 9)) e)) i, (tt, fields_at b (o + 1 + (w - 9))))
 
     -- bytes that hold a route are formed: a zero present byte has the zero fields behind it
@@ -186,7 +186,7 @@ module _ (w : ℕ) where
         (z, rw (first, all_zeros b (o + 1) (w - 9) formed.1.0))
 
     abbrev pub route_parts : Codec Route
-    route_parts = named parts to_route of_route RouteFits RouteFormed route_fits route_there route_formed route_here route_made
+    route_parts = named parts to_route of_route RouteFits RouteFormed route_fits route_there route_formed_lem route_here route_made
 
     pub route_bytes_lem : (r : Route) → route_bytes w r ≡ route_parts.bytes r
     unfolding route_bytes fields_bytes u16_bytes

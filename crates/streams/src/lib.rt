@@ -11,7 +11,7 @@ ghost use Rattle.streams.specs.Input.{Within, Moves};
 use libc::{STDERR_FILENO, STDIN_FILENO, STDOUT_FILENO};
 
 // What reading standard input came to.
-#[derive(Drop)]
+#[derive(Clone, Copy)]
 pub enum Input {
     // So many bytes stand at the start of the room. Fewer than there was room for are all of the input.
     Read(usize),
@@ -20,7 +20,7 @@ pub enum Input {
 }
 
 // What one read came to: some bytes, the end of the input, or a failure.
-#[derive(Drop)]
+#[derive(Clone, Copy)]
 enum Step {
     Some(usize),
     End,

@@ -9,7 +9,7 @@ mod walk;
 pub use entry::{LONGEST_TRAIL, longest_trail, trail, trail_bytes};
 
 // The box that a trail goes back to, if it does not stop.
-#[derive(Drop)]
+#[derive(Clone, Copy)]
 pub enum Sender {
     NoSender,
     From(u16),

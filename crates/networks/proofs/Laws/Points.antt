@@ -122,7 +122,7 @@ module _ {R P D : Type 0} (N : Network R P D) (S : Sheet R) (k : ℕ) (formed : 
     pub init_at : W N S k u ≡ true → init F u ≡ init N u
     pub ass_at : V_in_k N S k u ≡ true → ass F u ≡ ass_k N S k u
     pub guar_at : V_out_k N S k u ≡ true → guar F u ≡ guar_k N S k u
-    pub demand_at : W N S k u ≡ true → demanded F u ≡ demanded N u
+    pub demand_at_lem : W N S k u ≡ true → demanded F u ≡ demanded N u
 
   at_none : (i : ℕ) → box N i ≡ none → At i
   unfolding bind
@@ -136,7 +136,7 @@ module _ {R P D : Type 0} (N : Network R P D) (S : Sheet R) (k : ℕ) (formed : 
         init_at = λ t. rw (e, q) refl;
         ass_at = λ t. absurd (false≢true (rw (q, c) at t));
         guar_at = λ t. absurd (false≢true (rw q at t));
-        demand_at = λ t. rw (e, q) refl;
+        demand_at_lem = λ t. rw (e, q) refl;
       }
 
   at_input : (a : Input R) → box N a.id ≡ some (input a) → At a.id
@@ -154,7 +154,7 @@ module _ {R P D : Type 0} (N : Network R P D) (S : Sheet R) (k : ℕ) (formed : 
             init_at = λ t. rw (e, q) refl;
             ass_at = λ t. rw (e, q) refl;
             guar_at = λ t. absurd (false≢true (rw q at t));
-            demand_at = λ t. rw (e, q) refl;
+            demand_at_lem = λ t. rw (e, q) refl;
           }
       go false f =
           let e : box F a.id ≡ none = rw (box_piece N S (only k) formed.rise a.id, q, f) refl in
@@ -167,7 +167,7 @@ module _ {R P D : Type 0} (N : Network R P D) (S : Sheet R) (k : ℕ) (formed : 
             init_at = λ t. rw (e, q) refl;
             ass_at = λ t. absurd (false≢true (rw (q, i, c) at t));
             guar_at = λ t. absurd (false≢true (rw q at t));
-            demand_at = λ t. rw (e, q) refl;
+            demand_at_lem = λ t. rw (e, q) refl;
           }
 
   -- promises in the fragment, where there is a note
@@ -200,7 +200,7 @@ module _ {R P D : Type 0} (N : Network R P D) (S : Sheet R) (k : ℕ) (formed : 
             init_at = λ u. rw (e, q) refl;
             ass_at = λ u. absurd (false≢true (rw (q, c) at u));
             guar_at = λ u. rw (e, q, n.1) (promised_is b.promise (leaves N S b.id) n.0 (rw (q, s) at u));
-            demand_at = λ u. rw (e, q) refl;
+            demand_at_lem = λ u. rw (e, q) refl;
           }
       go false s true f n =
           let e : box F b.id ≡ some (assuming b n.0) = piece_is ∙ rw (s, f, n.1) refl in
@@ -212,7 +212,7 @@ module _ {R P D : Type 0} (N : Network R P D) (S : Sheet R) (k : ℕ) (formed : 
             init_at = λ u. absurd (false≢true (rw (q, s) at u));
             ass_at = λ u. rw (e, q, n.1) refl;
             guar_at = λ u. absurd (false≢true (rw (q, s) at u));
-            demand_at = λ u. absurd (false≢true (rw (q, s) at u));
+            demand_at_lem = λ u. absurd (false≢true (rw (q, s) at u));
           }
       go false s false f n =
           let e : box F b.id ≡ none = piece_is ∙ rw (s, f) refl in
@@ -224,7 +224,7 @@ module _ {R P D : Type 0} (N : Network R P D) (S : Sheet R) (k : ℕ) (formed : 
             init_at = λ u. absurd (false≢true (rw (q, s) at u));
             ass_at = λ u. absurd (false≢true (rw (q, c) at u));
             guar_at = λ u. absurd (false≢true (rw (q, s) at u));
-            demand_at = λ u. absurd (false≢true (rw (q, s) at u));
+            demand_at_lem = λ u. absurd (false≢true (rw (q, s) at u));
           }
 
   pub at_every : (u : ℕ) → At u

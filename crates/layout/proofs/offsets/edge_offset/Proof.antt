@@ -1,5 +1,5 @@
 -- The edges begin behind the nodes, five bytes each.
-use Rattle.layout.proofs.CodeLaws.{edge_offset}
+use Rattle.layout.proofs.CodeLaws.{edge_offset_lem}
 use borrow.Author.Rules.{rules}
 use Rattle.layout.proofs.offsets.edge_offset.Statement.{statement}
 use Rattle.layout.proofs.offsets.edge_offset.Tie as tie
@@ -17,7 +17,7 @@ stride-requires : tie.Need-stride-requires
 stride-requires c κs = search rules
 
 returns : tie.Need-returns
-returns c = search edge_offset
+returns c = search edge_offset_lem
 
 pub edge-offset-spec : {M : Type 1} → statement M
 edge-offset-spec =

@@ -1,5 +1,5 @@
 -- The nodes begin behind the policies, each of the form's width.
-use Rattle.layout.proofs.CodeLaws.{node_offset}
+use Rattle.layout.proofs.CodeLaws.{node_offset_lem}
 use borrow.Author.Rules.{rules}
 use Rattle.layout.proofs.offsets.node_offset.Statement.{statement}
 use Rattle.layout.proofs.offsets.node_offset.Tie as tie
@@ -14,7 +14,7 @@ stride-requires : tie.Need-stride-requires
 stride-requires c κs = search rules
 
 returns : tie.Need-returns
-returns c = (search node_offset, search rules)
+returns c = (search node_offset_lem, search rules)
 
 pub node-offset-spec : {M : Type 1} → statement M
 node-offset-spec =

@@ -1,5 +1,5 @@
 -- The nodes begin behind the policies.
-use Rattle.layout.proofs.CodeLaws.{node_part}
+use Rattle.layout.proofs.CodeLaws.{node_part_lem}
 use borrow.Author.Rules.{rules}
 use Rattle.layout.proofs.offsets.node_part.Statement.{statement}
 use Rattle.layout.proofs.offsets.node_part.Tie as tie
@@ -14,7 +14,7 @@ policy-offset-requires : tie.Need-policy-offset-requires
 policy-offset-requires c κs = search rules
 
 returns : tie.Need-returns
-returns c = (search node_part, search rules, search rules)
+returns c = (search node_part_lem, search rules, search rules)
 
 pub node-part-spec : {M : Type 1} → statement M
 node-part-spec =
