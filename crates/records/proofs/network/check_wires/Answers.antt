@@ -1,0 +1,17 @@
+-- One law for the row 9, and one for the row below; the marks that 10 looks at were set for 9.
+use Rattle.records.proofs.NetworkRefusals.{wires}
+use Rattle.records.proofs.LeftLaws.{left_marked}
+use borrow.Author.Rules.{rules}
+use Rattle.records.proofs.network.check_wires.Goals as goal
+
+pub edge_offset-requires : goal.edge_offset-requires
+edge_offset-requires c = search (rules, wires)
+
+pub returns-then-bad-edges : goal.returns-then-bad-edges
+returns-then-bad-edges c = search (rules, wires)
+
+pub check_inputs-requires : goal.check_inputs-requires
+check_inputs-requires c = (search rules, search left_marked)
+
+pub returns : goal.returns
+returns c = search (rules, wires)
