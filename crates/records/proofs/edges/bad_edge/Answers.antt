@@ -9,7 +9,7 @@ pub read_edge-low-requires : goal.read_edge-low-requires
 read_edge-low-requires c = search (rules, edging)
 
 pub returns-then-low-eq0 : goal.returns-then-low-eq0
-returns-then-low-eq0 c = let e = key_none _ _ _ _ c.read_edge-low.ensures.0 c.if-low-eq0.true in record { bad = search edging_bad; marks = search edging_bad_marks }
+returns-then-low-eq0 c = let e = key_none _ _ _ _ c.read_edge-low.ensures.next c.if-low-eq0.true in record { bad = search edging_bad; marks = search edging_bad_marks }
 
 pub overflow_add-o : goal.overflow_add-o
 overflow_add-o c = search edging_fits
