@@ -1,0 +1,25 @@
+-- The first own box without an entry is 17 (entry-lacking); where there is none the table is filled (all-standing).
+use Rattle.preparing.proofs.PrepareLaws.{entering}
+use borrow.Author.Rules.{rules}
+use Rattle.preparing.proofs.tables.enter.Goals as goal
+
+pub place_entries-row-requires : goal.place_entries-row-requires
+place_entries-row-requires c = search (rules, entering)
+
+pub u16_at-requires : goal.u16_at-requires
+u16_at-requires c = search (rules, entering)
+
+pub wide16-requires : goal.wide16-requires
+wide16-requires c = search (rules, entering)
+
+pub refused_at-requires : goal.refused_at-requires
+refused_at-requires c = search (rules, entering)
+
+pub returns-then-row-wide16 : goal.returns-then-row-wide16
+returns-then-row-wide16 c = search (rules, entering)
+
+pub fill_stands-requires : goal.fill_stands-requires
+fill_stands-requires c = search (rules, entering)
+
+pub returns : goal.returns
+returns c = search (rules, entering)

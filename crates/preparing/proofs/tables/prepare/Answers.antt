@@ -1,0 +1,40 @@
+-- The network's refusals (network-refused), the list's (list-refused), and then what the entries give (records-entered).
+use Rattle.preparing.proofs.PrepareLaws.{preparing, list_checked}
+use Rattle.records.proofs.Checked.{network_checked}
+use borrow.Author.Rules.{rules}
+use Rattle.preparing.proofs.tables.prepare.Goals as goal
+
+pub check_network_rows-requires : goal.check_network_rows-requires
+check_network_rows-requires c = search (rules, preparing)
+
+pub enum_known-r : goal.enum_known-r
+enum_known-r c = search (rules, preparing)
+
+pub enum_known-form : goal.enum_known-form
+enum_known-form c = search (rules, preparing)
+
+pub check_list-requires : goal.check_list-requires
+check_list-requires c = search (rules, preparing)
+
+pub enum_known-r-in-Refused-check_list : goal.enum_known-r-in-Refused-check_list
+enum_known-r-in-Refused-check_list c = search (rules, preparing)
+
+pub enum_told-1 : goal.enum_told-1
+enum_told-1 c = search (rules, preparing)
+
+pub enter-requires : goal.enter-requires
+enter-requires c =     let l = c.before.before.before.check_list in
+    let n = c.before.before.before.before.before.before.before.check_network_rows in
+    let slices = c.before.before.before.before.before.before.before.before.before in (
+      network_checked n.result _ (search rules) _ n.ensures.0 (λ i. (slices.before.shared-slice-known.given i).fits),
+      search (rules, list_checked _ _ n.result n.ensures.0 l.result l.ensures (λ i. (slices.shared-slice-known2.given i).fits)),
+    )
+
+pub returns-in-Refused : goal.returns-in-Refused
+returns-in-Refused c = search (rules, preparing)
+
+pub returns-in-Refused-check_list : goal.returns-in-Refused-check_list
+returns-in-Refused-check_list c = search (rules, preparing)
+
+pub returns-in-Fine-check_list : goal.returns-in-Fine-check_list
+returns-in-Fine-check_list c = search (rules, preparing)
