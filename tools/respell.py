@@ -47,7 +47,7 @@ BY_HAND = {"first_of": "first_applying", "Option·elim": "Option-elim"}
 
 def files(*ends):
     for top, _, names in os.walk("."):
-        if "/out" in top or "/.git" in top or "/target" in top:
+        if re.search(r"/(out|.git|target)(/|$)", top):
             continue
         for name in names:
             if name.endswith(ends):

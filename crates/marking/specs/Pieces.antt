@@ -20,8 +20,8 @@ use Rattle.marking.specs.Tables.{box_in, row_fragment}
 
 -- an own box with another promise; an input has none
 abbrev pub with_promise : Box Route Demand → Route → Box Route Demand
-with_promise (own b) note = own (record { id = b.id; initial = b.initial; promise = some note; demand = b.demand })
-with_promise (input a) note = input a
+with_promise (own b) noted = own (record { id = b.id; initial = b.initial; promise = some noted; demand = b.demand })
+with_promise (input a) noted = input a
 
 -- a box as an input that is assumed to hold a note
 abbrev pub assumed_box : Box Route Demand → Route → Box Route Demand

@@ -2,21 +2,21 @@
 use mathlib.Core.Path.{◌≡◌, refl, sym, ap, ◌∙◌}
 use Prim.Native.Nat.{ℕ}
 use Rattle.lists.specs.Answer.{Answer, given, refused}
-use Rattle.layout.proofs.Cases.{refusalOf, numbers-refusal}
-use Rattle.outcomes.specs.Outcomes.{outcomeOf}
+use Rattle.layout.proofs.Cases.{refusal_of, numbers_refusal}
+use Rattle.outcomes.specs.Outcomes.{outcome_of}
 use Rattle.outcomes.specs.declared.Outcome.{Outcome}
 use Rattle.outcomes.specs.declared.Outcome.TheVariants.{Done, Refused}
 
 -- the outcome with an answer
-unfoldable pub outcomeFrom : Answer ℕ → Outcome
-outcomeFrom (given length) = Done length
-outcomeFrom (refused number place) = Refused (refusalOf number place)
+unfoldable pub outcome_from : Answer ℕ → Outcome
+outcome_from (given length) = Done length
+outcome_from (refused number place) = Refused (refusal_of number place)
 
-pub answer-outcome : (c : Outcome) → outcomeFrom (outcomeOf c) ≡ c
-unfolding outcomeFrom
-answer-outcome (Done length) = refl
-answer-outcome (Refused r) = ap Refused (numbers-refusal r)
+pub answer_outcome : (c : Outcome) → outcome_from (outcome_of c) ≡ c
+unfolding outcome_from
+answer_outcome (Done length) = refl
+answer_outcome (Refused r) = ap Refused (numbers_refusal r)
 
 -- a contract that gives the answer allows one outcome
-pub one-outcome : (a : Answer ℕ) (c d : Outcome) → outcomeOf c ≡ a → outcomeOf d ≡ a → c ≡ d
-one-outcome a c d p q = sym (answer-outcome c) ∙ ap outcomeFrom (p ∙ sym q) ∙ answer-outcome d
+pub one_outcome : (a : Answer ℕ) (c d : Outcome) → outcome_of c ≡ a → outcome_of d ≡ a → c ≡ d
+one_outcome a c d p q = sym (answer_outcome c) ∙ ap outcome_from (p ∙ sym q) ∙ answer_outcome d

@@ -6,6 +6,6 @@ use Rattle.outcomes.specs.declared.Outcome.{Outcome}
 use Rattle.outcomes.specs.declared.Outcome.TheVariants.{Done, Refused}
 
 -- the length of the record, or a refusal
-abbrev pub outcomeOf : Outcome → Answer ℕ
-outcomeOf (Done length) = given length
-outcomeOf (Refused r) = refusing r
+abbrev pub outcome_of : Outcome → Answer ℕ
+outcome_of (Done length) = given length
+outcome_of (Refused r) = refusing r

@@ -4,8 +4,8 @@
 mod text;
 
 ghost use Rattle.std.specs.Prelude.{◌≡◌};
-ghost use Rattle.outcomes.specs.Outcomes.{outcomeOf};
-ghost use Rattle.outcomes.specs.Room.{inRoom};
+ghost use Rattle.outcomes.specs.Outcomes.{outcome_of};
+ghost use Rattle.outcomes.specs.Room.{in_room};
 
 use layout::{Class, Refusal};
 pub use text::place_outcome;
@@ -19,7 +19,7 @@ pub enum Outcome {
 
 // The outcome of a record that is laid where there is room for it: number 20 names the length.
 pub fn laid_in(room: usize, size: usize) -> Outcome
-    ensures { outcomeOf result ≡ inRoom room size }
+    ensures { outcome_of result ≡ in_room room size }
 {
     if room < size {
         return Outcome::Refused(Refusal {

@@ -1,7 +1,7 @@
 // What a program writes of an outcome.
 ghost use Rattle.std.specs.Prelude.{◌≡◌};
-ghost use Rattle.outcomes.specs.Outcomes.{outcomeOf};
-ghost use Rattle.outcomes.specs.Text.{outcomeLength, outcomePlaced};
+ghost use Rattle.outcomes.specs.Outcomes.{outcome_of};
+ghost use Rattle.outcomes.specs.Text.{outcome_length, outcome_placed};
 
 use crate::Outcome;
 use layout::number_of;
@@ -11,8 +11,8 @@ use numbers::wide;
 // Places the line of a refusal at the start of out where it fits, and answers its length. A record that is there, and one that had no
 // room, is answered by its length.
 pub fn place_outcome(outcome: Outcome, out: &mut [u8]) -> usize
-    ensures count { result ≡ outcomeLength (outcomeOf outcome) }
-    ensures text { out.new ≡ outcomePlaced (outcomeOf outcome) out.old }
+    ensures count { result ≡ outcome_length (outcome_of outcome) }
+    ensures text { out.new ≡ outcome_placed (outcome_of outcome) out.old }
 {
     match outcome {
         Outcome::Done(length) => length,

@@ -23,11 +23,11 @@ pub enum_told-1 : goal.enum_told-1
 enum_told-1 c = search (rules, preparing)
 
 pub enter-requires : goal.enter-requires
-enter-requires c =     let l = c.before.before.before.check_list in
-    let n = c.before.before.before.before.before.before.before.check_network_rows in
-    let slices = c.before.before.before.before.before.before.before.before.before in (
-      network_checked n.result _ (search rules) _ n.ensures.0 (λ i. (slices.before.shared-slice-known.given i).fits),
-      search (rules, list_checked _ _ n.result n.ensures.0 l.result l.ensures (λ i. (slices.shared-slice-known2.given i).fits)),
+enter-requires c =
+    let n = c.check_network_rows in
+    let l = c.check_list in (
+      network_checked n.result _ c.in-Fine.is _ n.ensures.numbers c.type_inv.network,
+      list_checked _ _ n.result n.ensures.numbers l.result l.ensures c.type_inv.list _ c.in-Fine.is _ c.in-Fine-check_list.is,
     )
 
 pub returns-in-Refused : goal.returns-in-Refused
