@@ -7,7 +7,7 @@ ghost use Rattle.records.specs.Checked.{CheckedNetwork};
 ghost use Rattle.preparing.specs.Prepared.{Prepared};
 ghost use Rattle.boxes.specs.Wires.{WireAt, WireEnd, next_from, row_into, offer_at};
 
-use crate::Next_wire;
+use crate::NextWire;
 use layout::{
     EDGE_WIDTH, EDGES_FIELD, Form, NODES_FIELD, ROWS, edge_offset, node_offset, policy_offset,
 };

@@ -26,8 +26,8 @@ pub enter-requires : goal.enter-requires
 enter-requires c =
     let n = c.check_network_rows in
     let l = c.check_list in (
-      network_checked n.result _ c.in-Fine.is _ n.ensures.numbers c.type_inv.network,
-      list_checked _ _ n.result n.ensures.numbers l.result l.ensures c.type_inv.list _ c.in-Fine.is _ c.in-Fine-check_list.is,
+      network_checked n.result _ c.in-Fine.is _ n.ensures.numbers (λ i. (c.type_inv.network i).fits),
+      list_checked _ _ n.result n.ensures.numbers l.result l.ensures (λ i. (c.type_inv.list i).fits) _ c.in-Fine.is _ c.in-Fine-check_list.is,
     )
 
 pub returns-in-Refused : goal.returns-in-Refused

@@ -1,0 +1,20 @@
+-- The number of the row that the edge leads to decides whether it is laid (as-off, as-on).
+use Rattle.laying.proofs.RowLaws.{reaching}
+use Rattle.writing.proofs.RunLaws.{runs}
+use borrow.Author.Rules.{rules}
+use Rattle.laying.proofs.rows.lay_edge.Goals as goal
+
+pub u16_at-requires : goal.u16_at-requires
+u16_at-requires c = search (rules, reaching)
+
+pub row_in-requires : goal.row_in-requires
+row_in-requires c = search (rules, reaching)
+
+pub returns-then-fragments-row_in : goal.returns-then-fragments-row_in
+returns-then-fragments-row_in c = record { size = search (reaching, runs); laid = search (reaching, runs) }
+
+pub put_edge-requires : goal.put_edge-requires
+put_edge-requires c = (search reaching, search reaching)
+
+pub returns : goal.returns
+returns c = record { size = search (reaching, runs); laid = search (reaching, runs) }

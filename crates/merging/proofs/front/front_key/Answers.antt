@@ -1,0 +1,13 @@
+-- The key in a row, or a number above all keys (key-fronts).
+use Rattle.merging.proofs.EdgeLaws.{key_fronts}
+use borrow.Author.Rules.{rules}
+use Rattle.merging.proofs.front.front_key.Goals as goal
+
+pub u32_at-requires : goal.u32_at-requires
+u32_at-requires c = search (rules, key_fronts)
+
+pub returns-then-p-u16_at : goal.returns-then-p-u16_at
+returns-then-p-u16_at c = search (rules, key_fronts)
+
+pub returns : goal.returns
+returns c = search (rules, key_fronts)
