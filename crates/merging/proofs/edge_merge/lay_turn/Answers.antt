@@ -16,27 +16,22 @@ pub slice_bounds-put_run-start : goal.slice_bounds-put_run-start
 slice_bounds-put_run-start c = search (rules, turning)
 
 pub put_run-requires : goal.put_run-requires
-put_run-requires c =     let limited = c.before.before in
-    let laid = c.before.before.before.before.before in
-    let ahead = c.before.before.before.before.before.before.before.before in
-    let given = ahead.before.before.before.before.requires in (
+put_run-requires c =
+    let given = c.requires.two in (
       search rules,
-      run_within _ _ _ _ _ given.0.2 c.before.run-below2.ensures,
-      second_room _ _ _ _ _ given.0.1 given.0.2 _ _ c.before.before.before.before.before.before.before.run-below.ensures ahead.front_key_lem.ensures.0 _ _ c.before.run-below2.ensures
-          limited.front-key2.ensures.0 _ given.1 _ _ laid.put-run.ensures.0 laid.put-run.ensures.1,
+      run_within _ _ _ _ _ given.2 c.run_below-b.ensures,
+      second_room _ _ _ _ _ given.1 given.2 _ _ c.run_below-a.ensures c.front_key.ensures.0 _ _ c.run_below-b.ensures
+          c.front_key-2.ensures.0 _ c.requires.q_in_bounds _ _ c.put_run-size.ensures.size c.put_run-size.ensures.laid,
     )
 
 pub returns : goal.returns
-returns c =     let done = c.before.before in
-    let behind = done.before.before in
-    let limited = behind.before in
-    let laid = behind.before.before.before.before in
-    let ahead = behind.before.before.before.before.before.before.before in
-    let given = ahead.before.before.before.before.requires in
-    let a = behind.before.before.before.before.before.before.run-below.ensures in
-    let j = ahead.front_key_lem.ensures.0 in
-    let b = behind.run-below2.ensures in
-    let i = limited.front-key2.ensures.0 in (
-      (first_gone _ _ _ _ _ given.0.1 given.0.2 _ _ a j, second_gone _ _ _ _ _ given.0.1 given.0.2 _ _ a j _ _ b i),
-      turn_done _ _ _ _ _ given.0.1 given.0.2 _ _ a j _ _ b i _ given.1 _ _ laid.put-run.ensures.0 laid.put-run.ensures.1 _ done.put-run2.ensures.1,
-    )
+returns c =
+    let given = c.requires.two in
+    let a = c.run_below-a.ensures in
+    let j = c.front_key.ensures.0 in
+    let b = c.run_below-b.ensures in
+    let i = c.front_key-2.ensures.0 in
+    record {
+      gone = (first_gone _ _ _ _ _ given.1 given.2 _ _ a j, second_gone _ _ _ _ _ given.1 given.2 _ _ a j _ _ b i);
+      laid = turn_done _ _ _ _ _ given.1 given.2 _ _ a j _ _ b i _ c.requires.q_in_bounds _ _ c.put_run-size.ensures.size c.put_run-size.ensures.laid _ c.put_run.ensures.laid;
+    }

@@ -36,15 +36,15 @@ pub overflow_add-o : goal.overflow_add-o
 overflow_add-o c = search (rules, edge_merging)
 
 pub loop-p-smaller : goal.loop-p-smaller
-loop-p-smaller c =     let t = c.before.before.before.before.before.before in
-    let turn = t.before.before.before in
-    let given = turn.before.before.before.before.requires.0 in
-    turn_less _ _ _ _ _ _ _ _ turn.loop.invariant (search rules) _ _ t.lay-turn.ensures.0.0 t.lay-turn.ensures.0.1 given.0 given.1 _ given.2 (search rules)
+loop-p-smaller c =
+    let gone = c.lay_turn-gone.ensures.gone in
+    let given = c.requires.two in
+    turn_less _ _ _ _ _ _ _ _ c.loop-p.invariant (search rules) _ _ gone.0 gone.1 given.0 given.1 _ given.2 (search rules)
 
 pub loop-p-preserved : goal.loop-p-preserved
-loop-p-preserved c =     let t = c.before.before.before.before.before.before in
-    turn_laid _ _ _ _ _ _ _ _ t.before.before.before.loop.invariant (search rules) _ _ t.lay-turn.ensures.0.0 t.lay-turn.ensures.0.1 _
-    c.stride.ensures.0 _ t.lay-turn.ensures.1
+loop-p-preserved c =
+    let gone = c.lay_turn-gone.ensures.gone in
+    turn_laid _ _ _ _ _ _ _ _ c.loop-p.invariant (search rules) _ _ gone.0 gone.1 _ c.stride-o.ensures.0 _ c.lay_turn-gone.ensures.laid
 
 pub shape_of-out : goal.shape_of-out
 shape_of-out c = search (rules, edge_merging)

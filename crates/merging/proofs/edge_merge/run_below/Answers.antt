@@ -18,7 +18,7 @@ pub loop-k-init : goal.loop-k-init
 loop-k-init c = search (rules, run_looking)
 
 pub u32_at-requires : goal.u32_at-requires
-u32_at-requires c = search (rules, run_there _ _ _ _ _ _ c.before.loop.invariant)
+u32_at-requires c = search (rules, run_there _ _ _ _ _ _ c.loop-k.invariant)
 
 pub overflow_cast-u32_at : goal.overflow_cast-u32_at
 overflow_cast-u32_at c = search (rules, run_looking)

@@ -45,12 +45,9 @@ pub loop-k-smaller : goal.loop-k-smaller
 loop-k-smaller c = search (rules, node_merging)
 
 pub loop-k-preserved : goal.loop-k-preserved
-loop-k-preserved c =     let s = c.before.before.before.before in
-    let f = s.before.before in
-    let turn = f.before.before.before in
-    let given = turn.before.before.before.before.requires.0.0 in
-    nodes_next _ _ _ _ _ _ _ _ _ _ turn.loop.invariant (search rules) (search rules) given _ s.put-lower.ensures.0 _ s.put-lower.ensures.1 _ _ _ _
-    f.before.front_id.ensures.0 f.front-id2.ensures.0 c.before.one_if.ensures c.one-if2.ensures
+loop-k-preserved c =
+    nodes_next _ _ _ _ _ _ _ _ _ _ c.loop-k.invariant (search rules) (search rules) c.requires.two.0 _ c.put_lower-size.ensures.size _
+    c.put_lower-size.ensures.laid _ _ _ _ c.front_id-i.ensures.0 c.front_id-j.ensures.0 c.one_if-p.ensures c.one_if-q.ensures
 
 pub shape_of-out : goal.shape_of-out
 shape_of-out c = search (rules, node_merging)

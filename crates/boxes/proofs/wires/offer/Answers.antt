@@ -1,0 +1,34 @@
+-- The sender's route by the lookup, and the policy by its number, make what the wire gives (offer-is).
+use Rattle.boxes.proofs.WireLaws.{offers}
+use borrow.Author.Rules.{rules}
+use Rattle.boxes.proofs.wires.offer.Goals as goal
+
+pub overflow_add-at : goal.overflow_add-at
+overflow_add-at c = search (rules, offers)
+
+pub bounds-network-at : goal.bounds-network-at
+bounds-network-at c = search (rules, offers)
+
+pub wide-requires : goal.wide-requires
+wide-requires c = search (rules, offers)
+
+pub policy_offset-requires : goal.policy_offset-requires
+policy_offset-requires c = search (rules, offers)
+
+pub policy_at-policy-requires : goal.policy_at-policy-requires
+policy_at-policy-requires c = search (rules, offers)
+
+pub overflow_add-at-2 : goal.overflow_add-at-2
+overflow_add-at-2 c = search (rules, offers)
+
+pub u16_at-from-requires : goal.u16_at-from-requires
+u16_at-from-requires c = search (rules, offers)
+
+pub box_route-requires : goal.box_route-requires
+box_route-requires c = search (rules, offers)
+
+pub carry-requires : goal.carry-requires
+carry-requires c = search (rules, offers)
+
+pub returns : goal.returns
+returns c = search (rules, offers)

@@ -1,0 +1,13 @@
+-- Five bytes behind a wire stands the next, or the record ends (wire-behind).
+use Rattle.boxes.proofs.WireLaws.{wire_behinds}
+use borrow.Author.Rules.{rules}
+use Rattle.boxes.proofs.wires.wire_behind.Goals as goal
+
+pub overflow_add-wire : goal.overflow_add-wire
+overflow_add-wire c = search (rules, wire_behinds)
+
+pub wire_from-requires : goal.wire_from-requires
+wire_from-requires c = search (rules, wire_behinds)
+
+pub returns : goal.returns
+returns c = search (rules, wire_behinds)
