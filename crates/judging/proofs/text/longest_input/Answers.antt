@@ -3,12 +3,8 @@ use Rattle.layout.specs.Form.{node_width, entry_width}
 use Rattle.reading.specs.Largest.{largest_network, largest_entries}
 use Rattle.judging.specs.Text.{judge_bound}
 use borrow.Author.Rules.{rules}
-use Rattle.judging.proofs.text.longest_input.Statement.{statement}
-use Rattle.judging.proofs.text.longest_input.Tie as tie
+use Rattle.judging.proofs.text.longest_input.Goals as goal
 
-returns : tie.Need-returns
+pub returns : goal.returns
 unfolding judge_bound largest_network largest_entries node_width entry_width
 returns c = search rules
-
-pub longest-input-spec : {M : Type 1} → statement M
-longest-input-spec = tie.close (tie.spec returns)

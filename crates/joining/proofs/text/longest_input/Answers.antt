@@ -3,12 +3,8 @@ use Rattle.layout.specs.Form.{node_width}
 use Rattle.reading.specs.Largest.{largest_network}
 use Rattle.joining.specs.Text.{join_bound}
 use borrow.Author.Rules.{rules}
-use Rattle.joining.proofs.text.longest_input.Statement.{statement}
-use Rattle.joining.proofs.text.longest_input.Tie as tie
+use Rattle.joining.proofs.text.longest_input.Goals as goal
 
-returns : tie.Need-returns
+pub returns : goal.returns
 unfolding join_bound largest_network node_width
 returns c = search rules
-
-pub longest-input-spec : {M : Type 1} → statement M
-longest-input-spec = tie.close (tie.spec returns)

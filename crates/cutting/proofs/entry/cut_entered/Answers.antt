@@ -1,0 +1,10 @@
+-- No row with the number is 18 (answer-18); one is what the rest asks for.
+use Rattle.cutting.proofs.AnswerLaws.{cutting_18}
+use borrow.Author.Rules.{rules}
+use Rattle.cutting.proofs.entry.cut_entered.Goals as goal
+
+pub returns-then-first_inside-n : goal.returns-then-first_inside-n
+returns-then-first_inside-n c = record { answer = search cutting_18; buffer = search cutting_18 }
+
+pub cut_asked-requires : goal.cut_asked-requires
+cut_asked-requires c = (search rules, search rules, search rules, search cutting_18)

@@ -1,0 +1,27 @@
+-- Refused before the search (judge-refused), or what the search answers (judge-searched).
+use Rattle.judging.proofs.EntryLaws.{judging}
+use Rattle.preparing.proofs.GivenLaws.{prepared_after}
+use borrow.Author.Rules.{rules}
+use Rattle.judging.proofs.entry.judge.Goals as goal
+
+pub prepare-requires : goal.prepare-requires
+prepare-requires c = search (rules, judging)
+
+pub enum_known-r : goal.enum_known-r
+enum_known-r c = search (rules, judging)
+
+pub enum_known-form : goal.enum_known-form
+enum_known-form c = search (rules, judging)
+
+pub search-requires : goal.search-requires
+search-requires c =
+    search (
+      rules,
+      prepared_after _ _ c.prepare.result c.prepare.ensures.numbers (λ i. (c.type_inv.network i).fits) (λ i. (c.type_inv.list i).fits),
+    )
+
+pub returns-in-Refused : goal.returns-in-Refused
+returns-in-Refused c = search (rules, judging)
+
+pub returns-in-Fine : goal.returns-in-Fine
+returns-in-Fine c = search (rules, judging)

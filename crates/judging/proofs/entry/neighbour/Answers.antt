@@ -1,0 +1,36 @@
+-- Empty where something is refused before the search (asked-refused), and else the part of the id (asked-named).
+use Rattle.judging.proofs.EntryLaws.{asking}
+use Rattle.preparing.proofs.GivenLaws.{prepared_after}
+use borrow.Author.Rules.{rules}
+use Rattle.judging.proofs.entry.neighbour.Goals as goal
+
+pub prepare-requires : goal.prepare-requires
+prepare-requires c = search (rules, asking)
+
+pub enum_told-1 : goal.enum_told-1
+enum_told-1 c = search (rules, asking)
+
+pub slice_bounds-result-count : goal.slice_bounds-result-count
+slice_bounds-result-count c = search (rules, asking)
+
+pub slice_bounds-result-start : goal.slice_bounds-result-start
+slice_bounds-result-start c = search (rules, asking)
+
+pub slice_bounds-result-end : goal.slice_bounds-result-end
+slice_bounds-result-end c = search (rules, asking)
+
+pub enum_known-form : goal.enum_known-form
+enum_known-form c = search (rules, asking)
+
+pub named_part-requires : goal.named_part-requires
+named_part-requires c =
+    search (
+      rules,
+      prepared_after _ _ c.prepare.result c.prepare.ensures.numbers (λ i. (c.type_inv.network i).fits) (λ i. (c.type_inv.list i).fits),
+    )
+
+pub returns-in-Refused : goal.returns-in-Refused
+returns-in-Refused c = search (rules, asking)
+
+pub returns-in-Fine : goal.returns-in-Fine
+returns-in-Fine c = search (rules, asking)
