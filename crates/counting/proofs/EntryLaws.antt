@@ -4,12 +4,10 @@
 --     entering                   what is refused has its line alone, and the rest is judged
 --     census-texts               an input that is too long, and one that is counted
 use mathlib.Core.Path.{◌≡◌, refl, sym, ap, ◌∙◌}
-use mathlib.Core.List.{List, [], ◌∷◌, append-nil}
+use mathlib.Core.List.{List, [], append-nil}
 use Prim.Native.Nat.{ℕ, ◌-◌, ◌≤◌, ◌<◌}
 use native.Mathlib.Nat.{sub-zero, zero-add}
 use lib.ListN.{length, take, drop}
-use types.Run.{OneOf, miss}
-use denote.Enum.Declared.{tag_of}
 use Rattle.lists.specs.Answer.{given, refused}
 use Rattle.lists.proofs.Answer.{given_same}
 use Rattle.routes.specs.Carry.{highest}
@@ -40,7 +38,6 @@ use Rattle.judging.specs.Text.{verdict_line, judge_bound}
 use Rattle.judging.specs.declared.Verdict.{Verdict}
 use Rattle.judging.specs.declared.Verdict.TheVariants.{Pass, NotDue, PromiseBroken, DemandUnmet, Refused}
 use Rattle.judging.proofs.EntryLaws.{judge_refused, judge_searched}
-use Rattle.judging.specs.contracts.Verdict.{the_type}
 use Rattle.counting.specs.Counted.{counted_in}
 use Rattle.counting.specs.Lines.{tally_of}
 use Rattle.counting.specs.Rows.{pass_rows}
@@ -74,12 +71,12 @@ module _ (f : Form) (network list : List ℕ) (v : Verdict) (h : answer_of v ≡
     unfolding census_from verdict_line
     pass_told t q = rw (q, verdict_is) (pass_census f network list boxes all_judged)
 
-  module _ (k : OneOf (1 ∷ 2 ∷ 3 ∷ 4 ∷ []) (tag_of the_type v)) (l : Line) (m : line_bytes l ≡ verdict_line (answer_of v)) where
+  module _ (k : (n : ℕ) → v ≡ Pass n → ⊥) (l : Line) (m : line_bytes l ≡ verdict_line (answer_of v)) where
     nothing_behind : (lines : List ℕ) → behind_pass (answer_of v) lines ≡ []
     nothing_behind lines = go v k
       where
-        go : (w : Verdict) → OneOf (1 ∷ 2 ∷ 3 ∷ 4 ∷ []) (tag_of the_type w) → behind_pass (answer_of w) lines ≡ []
-        go (Pass n) j = absurd (miss (1 ∷ 2 ∷ 3 ∷ 4 ∷ []) 0 tt j)
+        go : (w : Verdict) → ((n : ℕ) → w ≡ Pass n → ⊥) → behind_pass (answer_of w) lines ≡ []
+        go (Pass n) j = absurd (j n refl)
         go (NotDue x) j = refl
         go (PromiseBroken x) j = refl
         go (DemandUnmet x) j = refl

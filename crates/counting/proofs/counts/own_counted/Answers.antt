@@ -1,0 +1,43 @@
+-- One law for each count.
+use Rattle.counting.proofs.CountLaws.{offsets, owning}
+use borrow.Author.Rules.{rules}
+use Rattle.counting.proofs.counts.own_counted.Goals as goal
+
+pub node_offset-at-requires : goal.node_offset-at-requires
+node_offset-at-requires c = (search offsets, search offsets, search offsets)
+
+pub carries-requires : goal.carries-requires
+carries-requires c = search (rules, owning)
+
+pub promising_at-requires : goal.promising_at-requires
+promising_at-requires c = search (rules, owning)
+
+pub promises_route-requires : goal.promises_route-requires
+promises_route-requires c = search (rules, owning)
+
+pub asks_route-requires : goal.asks_route-requires
+asks_route-requires c = search (rules, owning)
+
+pub is_overlooked-requires : goal.is_overlooked-requires
+is_overlooked-requires c = search (rules, owning)
+
+pub returns-in-Holding : goal.returns-in-Holding
+returns-in-Holding c = search (rules, owning)
+
+pub returns-in-Inputs : goal.returns-in-Inputs
+returns-in-Inputs c = search (rules, owning)
+
+pub returns-in-Assumed : goal.returns-in-Assumed
+returns-in-Assumed c = search (rules, owning)
+
+pub returns-in-Promises : goal.returns-in-Promises
+returns-in-Promises c = search (rules, owning)
+
+pub returns-in-Promised : goal.returns-in-Promised
+returns-in-Promised c = search (rules, owning)
+
+pub returns-in-Asked : goal.returns-in-Asked
+returns-in-Asked c = search (rules, owning)
+
+pub returns-in-Silent : goal.returns-in-Silent
+returns-in-Silent c = search (rules, owning)

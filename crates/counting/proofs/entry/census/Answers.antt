@@ -1,0 +1,28 @@
+-- What is refused has its line alone, and the rest is judged.
+use Rattle.counting.proofs.EntryLaws.{entering}
+use Rattle.preparing.proofs.GivenLaws.{prepared_after}
+use Rattle.lines.proofs.Answers.{answering}
+use borrow.Author.Rules.{rules}
+use Rattle.counting.proofs.entry.census.Goals as goal
+
+pub prepare-requires : goal.prepare-requires
+prepare-requires c = search (rules, entering)
+
+pub verdict_line-requires : goal.verdict_line-requires
+verdict_line-requires c = search (rules, entering)
+
+pub place_line-requires : goal.place_line-requires
+place_line-requires c = search (rules, entering)
+
+pub place_judged-requires : goal.place_judged-requires
+place_judged-requires c =
+    search (
+      rules,
+      prepared_after _ _ c.prepare.result c.prepare.ensures.numbers (λ i. (c.type_inv.network i).fits) (λ i. (c.type_inv.list i).fits),
+    )
+
+pub returns-in-Refused : goal.returns-in-Refused
+returns-in-Refused c = record { count = search (answering, entering); text = search (answering, entering) }
+
+pub returns-in-Fine : goal.returns-in-Fine
+returns-in-Fine c = record { count = search (answering, entering); text = search (answering, entering) }

@@ -1,0 +1,22 @@
+-- A box that is named has its line, and another none.
+use Rattle.counting.proofs.LineLaws.{silencing}
+use borrow.Author.Rules.{rules}
+use Rattle.counting.proofs.text.put_silent.Goals as goal
+
+pub is_counted-requires : goal.is_counted-requires
+is_counted-requires c = search (rules, silencing)
+
+pub returns-then-not-is_counted : goal.returns-then-not-is_counted
+returns-then-not-is_counted c = search (rules, silencing)
+
+pub node_id-requires : goal.node_id-requires
+node_id-requires c = search (rules, silencing)
+
+pub wide16-requires : goal.wide16-requires
+wide16-requires c = search (rules, silencing)
+
+pub put_name-requires : goal.put_name-requires
+put_name-requires c = search (rules, silencing)
+
+pub returns : goal.returns
+returns c = search (rules, silencing)

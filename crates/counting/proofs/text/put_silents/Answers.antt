@@ -1,0 +1,24 @@
+use Rattle.counting.proofs.LineLaws.{silences}
+use borrow.Author.Rules.{rules}
+use Rattle.counting.proofs.text.put_silents.Goals as goal
+
+pub u16_at-requires : goal.u16_at-requires
+u16_at-requires c = search (rules, silences)
+
+pub wide16-n-requires : goal.wide16-n-requires
+wide16-n-requires c = search (rules, silences)
+
+pub loop-i-init : goal.loop-i-init
+loop-i-init c = search (rules, silences)
+
+pub put_silent-next-requires : goal.put_silent-next-requires
+put_silent-next-requires c = search (rules, silences)
+
+pub loop-i-smaller : goal.loop-i-smaller
+loop-i-smaller c = search (rules, silences)
+
+pub loop-i-preserved : goal.loop-i-preserved
+loop-i-preserved c = search (rules, silences)
+
+pub returns : goal.returns
+returns c = search silences
