@@ -11,8 +11,6 @@ use native.Mathlib.Nat.{sub-zero}
 use native.Mathlib.Omega.{arith}
 use lib.ListN.{length, take, drop, length-drop}
 use lib.Seq.{drop-drop}
-use types.Run.{OneOf, miss}
-use denote.Enum.Declared.{tag_of}
 use borrow.Author.Tests.{not-true, not-false}
 use Rattle.lists.specs.Answer.{Answer, and_then}
 use Rattle.lists.specs.Laid.{placed}
@@ -53,7 +51,6 @@ use Rattle.judging.specs.Text.{verdict_line, naming_bound}
 use Rattle.judging.specs.declared.Verdict.{Verdict}
 use Rattle.judging.specs.declared.Verdict.TheVariants.{Pass, NotDue, PromiseBroken, DemandUnmet, Refused}
 use Rattle.judging.proofs.EntryLaws.{judge_refused, judge_searched}
-use Rattle.judging.specs.contracts.Verdict.{the_type}
 use Rattle.tracing.specs.Text.{trail_from, shown_text, output_at, trail_output, longest_trail, trail_text}
 use Rattle.tracing.specs.Tracing.{show_records, shown_at, Passing}
 use Rattle.tracing.proofs.Lengths.{from_short}
@@ -125,13 +122,13 @@ module _ (f : Form) (network list : List ℕ) (id : ℕ) (t : Bool) (o : t ≡ o
       unfolding output_at shown_at showing shown_text trail_from
       trail_told = rw (← h, e, owns_is, not-false t z)
 
-    module _ (k : OneOf (1 ∷ 2 ∷ 3 ∷ 4 ∷ []) (tag_of the_type v)) (l : Line) (m : line_bytes l ≡ verdict_line (answer_of v)) where
+    module _ (k : (n : ℕ) → v ≡ Pass n → ⊥) (l : Line) (m : line_bytes l ≡ verdict_line (answer_of v)) where
       alone : verdict_line (answer_of v) ≡ shown_text (after (answer_of v))
       unfolding showing shown_text verdict_line
       alone = go v k
         where
-          go : (w : Verdict) → OneOf (1 ∷ 2 ∷ 3 ∷ 4 ∷ []) (tag_of the_type w) → verdict_line (answer_of w) ≡ shown_text (after (answer_of w))
-          go (Pass n) j = absurd (miss (1 ∷ 2 ∷ 3 ∷ 4 ∷ []) 0 tt j)
+          go : (w : Verdict) → ((n : ℕ) → w ≡ Pass n → ⊥) → verdict_line (answer_of w) ≡ shown_text (after (answer_of w))
+          go (Pass n) j = absurd (j n refl)
           go (NotDue x) j = rw (owns_is, not-false t z)
           go (PromiseBroken x) j = rw (owns_is, not-false t z)
           go (DemandUnmet x) j = rw (owns_is, not-false t z)

@@ -39,7 +39,9 @@ pub shape_of-out-in_default : goal.shape_of-out-in_default
 shape_of-out-in_default c = search (rules, showings, answering)
 
 pub returns-in_default : goal.returns-in_default
-returns-in_default c = record { count = search (answering, showings); short = search line_short; text = search (answering, showings) }
+returns-in_default c =
+    let not_pass = c.in_default.not-Pass in
+    record { count = search (answering, showings, not_pass); short = search line_short; text = search (answering, showings, not_pass) }
 
 pub place_trail-requires : goal.place_trail-requires
 place_trail-requires c = search (rules, showings, answering)
