@@ -13,27 +13,27 @@ use streams::{Input, read_input, write_output};
 
 // Writes the answer. No contract can say what a call of C's writes, so what is written is said where it is asked: the census of the
 // input of which so many bytes were read into the room.
-fn write_answer(room: &[u8], count: usize, text: &[u8])
+fn write_answer(rt: &HostRuntime, room: &[u8], count: usize, text: &[u8])
     requires { Answers census_text room.now count text.now }
 {
-    write_output(text, b"census: the answer could not be written\n");
+    write_output(rt, text, b"census: the answer could not be written\n");
 }
 
 // Counts what was read. The room holds more than the longest input, so that a longer one shows.
-fn answer(room: &[u8], count: usize)
+fn answer(rt: &HostRuntime, room: &[u8], count: usize)
     requires { (judge_bound < length room.now) × (count ≤ length room.now) }
 {
     let mut text = [0u8; LONGEST_CENSUS];
     let length = census_bytes(&room[0..count], &mut text);
-    write_answer(room, count, &text[0..length]);
+    write_answer(rt, room, count, &text[0..length]);
 }
 
 // What could not be read to its end is not counted.
-fn main() {
+fn main(rt: HostRuntime) {
     let mut room = [0u8; LONGEST + 1];
-    let Input::Read(count) = read_input(&mut room, b"census: standard input could not be read\n")
+    let Input::Read(count) = read_input(&rt, &mut room, b"census: standard input could not be read\n")
     else {
         return;
     };
-    answer(&room, count);
+    answer(&rt, &room, count);
 }

@@ -11,28 +11,28 @@ use streams::{Input, read_input, write_output};
 
 // Writes the answer. No contract can say what a call of C's writes, so what is written is said where it is asked: the cutter's output
 // on the input of which so many bytes were read into the room.
-fn write_answer(room: &[u8], count: usize, output: &[u8])
+fn write_answer(rt: &HostRuntime, room: &[u8], count: usize, output: &[u8])
     requires { Answers cut_text room.now count output.now }
 {
-    write_output(output, b"cut: the answer could not be written\n");
+    write_output(rt, output, b"cut: the answer could not be written\n");
 }
 
 // Cuts what was read. The room holds more than the longest input, so that a longer one shows; no fragment is longer than the largest
 // network.
-fn answer(room: &[u8], count: usize)
+fn answer(rt: &HostRuntime, room: &[u8], count: usize)
     requires { (cut_bound < length room.now) × (count ≤ length room.now) }
 {
     let mut output = [0u8; LARGEST];
     let length = cut_bytes(&room[0..count], &mut output);
-    write_answer(room, count, &output[0..length]);
+    write_answer(rt, room, count, &output[0..length]);
 }
 
 // What could not be read to its end is not cut.
-fn main() {
+fn main(rt: HostRuntime) {
     let mut room = [0u8; LONGEST + 1];
-    let Input::Read(count) = read_input(&mut room, b"cut: standard input could not be read\n")
+    let Input::Read(count) = read_input(&rt, &mut room, b"cut: standard input could not be read\n")
     else {
         return;
     };
-    answer(&room, count);
+    answer(&rt, &room, count);
 }

@@ -8,7 +8,7 @@
 ghost use Rattle.std.specs.Prelude.{◌-◌, ◌≤◌, length};
 ghost use Rattle.streams.specs.Input.{Within, Moves};
 
-use libc::{STDERR_FILENO, STDIN_FILENO, STDOUT_FILENO};
+use std::io::{Read, Write};
 
 // What reading standard input came to.
 #[derive(Clone, Copy)]
@@ -28,14 +28,12 @@ enum Step {
 }
 
 // One read into a room that is not empty.
-fn read_some(room: &mut [u8]) -> Step
+fn read_some(rt: &HostRuntime, room: &mut [u8]) -> Step
     ensures { Moves result (length room.old) }
 {
-    let got = libc::read(STDIN_FILENO, room);
-    if got < 0 {
+    let Ok(count) = rt.stdin().read(room) else {
         return Step::Failed;
-    }
-    let count = io::count(got, room);
+    };
     if count == 0 {
         return Step::End;
     }
@@ -43,24 +41,24 @@ fn read_some(room: &mut [u8]) -> Step
 }
 
 // One read into a room behind the bytes that are done.
-fn read_behind(room: &mut [u8], done: usize) -> Step
+fn read_behind(rt: &HostRuntime, room: &mut [u8], done: usize) -> Step
     requires { done ≤ length room.old }
     ensures { Moves result (length room.old - done) }
 {
-    read_some(&mut room[done..])
+    read_some(rt, &mut room[done..])
 }
 
 // Reads standard input to its end, or until the room is full. Says the words where a read fails.
-pub fn read_input(room: &mut [u8], words: &[u8]) -> Input
+pub fn read_input(rt: &HostRuntime, room: &mut [u8], words: &[u8]) -> Input
     ensures { Within result (length room.new) }
 {
     let mut done = 0;
     while done < room.len() {
-        match read_behind(room, done) {
+        match read_behind(rt, room, done) {
             Step::Some(more) => done += more,
             Step::End => return Input::Read(done),
             Step::Failed => {
-                io::write_all(STDERR_FILENO, words);
+                say(rt, words);
                 return Input::Failed;
             }
         }
@@ -68,11 +66,16 @@ pub fn read_input(room: &mut [u8], words: &[u8]) -> Input
     Input::Read(done)
 }
 
+// Says words on standard error. Where that fails there is nothing left to say it on.
+fn say(rt: &HostRuntime, words: &[u8]) {
+    let _ = rt.stderr().write_all(words);
+}
+
 // Writes all of a text to standard output, and answers whether that was done. Says the words where a write fails.
-pub fn write_output(text: &[u8], words: &[u8]) -> bool {
-    if io::write_all(STDOUT_FILENO, text) {
+pub fn write_output(rt: &HostRuntime, text: &[u8], words: &[u8]) -> bool {
+    if rt.stdout().write_all(text).is_ok() {
         return true;
     }
-    io::write_all(STDERR_FILENO, words);
+    say(rt, words);
     false
 }

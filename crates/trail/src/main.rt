@@ -13,27 +13,27 @@ use tracing::{LONGEST_TRAIL, trail_bytes};
 
 // Writes the answer. No contract can say what a call of C's writes, so what is written is said where it is asked: the trail by the
 // input of which so many bytes were read into the room.
-fn write_answer(room: &[u8], count: usize, text: &[u8])
+fn write_answer(rt: &HostRuntime, room: &[u8], count: usize, text: &[u8])
     requires { Answers trail_text room.now count text.now }
 {
-    write_output(text, b"trail: the answer could not be written\n");
+    write_output(rt, text, b"trail: the answer could not be written\n");
 }
 
 // Traces by what was read. The room holds more than the longest input, so that a longer one shows.
-fn answer(room: &[u8], count: usize)
+fn answer(rt: &HostRuntime, room: &[u8], count: usize)
     requires { (naming_bound < length room.now) × (count ≤ length room.now) }
 {
     let mut text = [0u8; LONGEST_TRAIL];
     let length = trail_bytes(&room[0..count], &mut text);
-    write_answer(room, count, &text[0..length]);
+    write_answer(rt, room, count, &text[0..length]);
 }
 
 // By what could not be read to its end nothing is traced.
-fn main() {
+fn main(rt: HostRuntime) {
     let mut room = [0u8; LONGEST_NAMING + 1];
-    let Input::Read(count) = read_input(&mut room, b"trail: standard input could not be read\n")
+    let Input::Read(count) = read_input(&rt, &mut room, b"trail: standard input could not be read\n")
     else {
         return;
     };
-    answer(&room, count);
+    answer(&rt, &room, count);
 }

@@ -1,0 +1,6 @@
+-- The room that is lent is as long as what is left (moves-behind).
+use Rattle.streams.proofs.Laws.{moves_behind}
+use Rattle.streams.proofs.read_behind.Goals as goal
+
+pub returns : goal.returns
+returns c = search moves_behind
