@@ -1,8 +1,7 @@
 // What programs in other languages link: the check, the judge, the census, the trail, the cutter and the joiner, from bytes to bytes, and the
 // rooms that these take.
 //
-// The archive that `rt staticlib library` writes has the functions below under their own names, by C's calling convention;
-// a slice is handed over as a pointer and a length (c/lnianotka.h). No function has a `requires`: a caller in
+// The crate `library_c` hands them to C under their own names (c/lnianotka.h). No function has a `requires`: a caller in
 // another language owes no more than what the types say.
 #![tactic(auto)]
 
@@ -26,8 +25,7 @@ use records::check_network;
 
 // The number of the first refusal that applies to a network record, with its place through a reference; both are 0 where the network is
 // sound.
-#[unsafe(no_mangle)]
-pub extern "C" fn lnianotka_check(network: &[u8], place: &mut usize) -> u8
+pub fn lnianotka_check(network: &[u8], place: &mut usize) -> u8
     ensures number { result ≡ number_in (network_refusal network.now) }
     ensures offset { place.new ≡ place_in (network_refusal network.now) }
 {
@@ -45,72 +43,63 @@ pub extern "C" fn lnianotka_check(network: &[u8], place: &mut usize) -> u8
 }
 
 // The longest input that is judged; a longer one is refused.
-#[unsafe(no_mangle)]
-pub extern "C" fn lnianotka_judge_input() -> usize
+pub fn lnianotka_judge_input() -> usize
     ensures { result ≡ judge_bound }
 {
     judging::longest_input()
 }
 
 // Room enough for every line of the judge.
-#[unsafe(no_mangle)]
-pub extern "C" fn lnianotka_judge_answer() -> usize
+pub fn lnianotka_judge_answer() -> usize
     ensures { result ≡ longest_line }
 {
     LONGEST_LINE
 }
 
 // Room enough for every census.
-#[unsafe(no_mangle)]
-pub extern "C" fn lnianotka_census_answer() -> usize
+pub fn lnianotka_census_answer() -> usize
     ensures { result ≡ longest_census }
 {
     counting::longest_census()
 }
 
 // The longest input that is traced; a longer one is refused.
-#[unsafe(no_mangle)]
-pub extern "C" fn lnianotka_trail_input() -> usize
+pub fn lnianotka_trail_input() -> usize
     ensures { result ≡ naming_bound }
 {
     judging::longest_naming()
 }
 
 // Room enough for every trail.
-#[unsafe(no_mangle)]
-pub extern "C" fn lnianotka_trail_answer() -> usize
+pub fn lnianotka_trail_answer() -> usize
     ensures { result ≡ longest_trail }
 {
     tracing::longest_trail()
 }
 
 // The longest input that is cut; a longer one is refused.
-#[unsafe(no_mangle)]
-pub extern "C" fn lnianotka_cut_input() -> usize
+pub fn lnianotka_cut_input() -> usize
     ensures { result ≡ cut_bound }
 {
     cutting::longest_input()
 }
 
 // Room enough for every output of the cutter.
-#[unsafe(no_mangle)]
-pub extern "C" fn lnianotka_cut_answer() -> usize
+pub fn lnianotka_cut_answer() -> usize
     ensures { result ≡ largest_network widest }
 {
     cutting::largest_output()
 }
 
 // The longest input that is joined; a longer one is refused.
-#[unsafe(no_mangle)]
-pub extern "C" fn lnianotka_join_input() -> usize
+pub fn lnianotka_join_input() -> usize
     ensures { result ≡ join_bound }
 {
     joining::longest_input()
 }
 
 // Room enough for every output of the joiner.
-#[unsafe(no_mangle)]
-pub extern "C" fn lnianotka_join_answer() -> usize
+pub fn lnianotka_join_answer() -> usize
     ensures { result ≡ largest_network widest }
 {
     joining::largest_output()
@@ -118,8 +107,7 @@ pub extern "C" fn lnianotka_join_answer() -> usize
 
 // The line that the judging program prints when it reads these bytes: its length, and the line itself at the start of out
 // where it fits.
-#[unsafe(no_mangle)]
-pub extern "C" fn lnianotka_judge(input: &[u8], out: &mut [u8]) -> usize
+pub fn lnianotka_judge(input: &[u8], out: &mut [u8]) -> usize
     ensures count { result ≡ length (judge_text input.now) }
     ensures text { out.new ≡ placed (judge_text input.now) out.old }
 {
@@ -127,8 +115,7 @@ pub extern "C" fn lnianotka_judge(input: &[u8], out: &mut [u8]) -> usize
 }
 
 // What the counting program prints when it reads these bytes: its length, and the text itself at the start of out where it fits.
-#[unsafe(no_mangle)]
-pub extern "C" fn lnianotka_census(input: &[u8], out: &mut [u8]) -> usize
+pub fn lnianotka_census(input: &[u8], out: &mut [u8]) -> usize
     ensures count { result ≡ length (census_text input.now) }
     ensures text { out.new ≡ placed (census_text input.now) out.old }
 {
@@ -136,8 +123,7 @@ pub extern "C" fn lnianotka_census(input: &[u8], out: &mut [u8]) -> usize
 }
 
 // What the tracing program prints when it reads these bytes: its length, and the text itself at the start of out where it fits.
-#[unsafe(no_mangle)]
-pub extern "C" fn lnianotka_trail(input: &[u8], out: &mut [u8]) -> usize
+pub fn lnianotka_trail(input: &[u8], out: &mut [u8]) -> usize
     ensures count { result ≡ length (trail_text input.now) }
     ensures text { out.new ≡ placed (trail_text input.now) out.old }
 {
@@ -146,8 +132,7 @@ pub extern "C" fn lnianotka_trail(input: &[u8], out: &mut [u8]) -> usize
 
 // What the cutting program writes when it reads these bytes: its length, and the bytes themselves at the start of out where
 // they fit.
-#[unsafe(no_mangle)]
-pub extern "C" fn lnianotka_cut(input: &[u8], out: &mut [u8]) -> usize
+pub fn lnianotka_cut(input: &[u8], out: &mut [u8]) -> usize
     ensures count { result ≡ length (cut_text input.now) }
     ensures text { out.new ≡ placed (cut_text input.now) out.old }
 {
@@ -156,8 +141,7 @@ pub extern "C" fn lnianotka_cut(input: &[u8], out: &mut [u8]) -> usize
 
 // What the joining program writes when it reads these bytes: its length, and the bytes themselves at the start of out where
 // they fit.
-#[unsafe(no_mangle)]
-pub extern "C" fn lnianotka_join(input: &[u8], out: &mut [u8]) -> usize
+pub fn lnianotka_join(input: &[u8], out: &mut [u8]) -> usize
     ensures count { result ≡ length (join_text input.now) }
     ensures text { out.new ≡ placed (join_text input.now) out.old }
 {
