@@ -7,9 +7,11 @@ ghost use Rattle.std.specs.Prelude.{◌+◌, ◌≤◌};
 
 use joining::join;
 use layout::{Check, LARGEST_NETWORK, Refusal, number_of};
-use libc::STDOUT_FILENO;
 use numbers::{put_u16, put_u32};
 use outcomes::Outcome;
+
+// Standard output.
+const STDOUT: i32 = 1;
 
 // Stores a count as two bytes.
 fn put(out: &mut [u8; 40000], at: usize, v: usize)
@@ -89,17 +91,17 @@ fn put_entries(out: &mut [u8; 40000], size: usize, n: usize, total: usize)
 
 // Prints a number and a space.
 fn print(n: usize) {
-    io::print_decimal(STDOUT_FILENO, n as u64);
-    io::write_all(STDOUT_FILENO, b" ");
+    io::print_decimal(STDOUT, n as u64);
+    io::write_all(STDOUT, b" ");
 }
 
 // Prints the end of a line: a number and a place.
 fn print_end(number: u8, place: usize) {
-    io::write_all(STDOUT_FILENO, b": ");
-    io::print_decimal(STDOUT_FILENO, number as u64);
-    io::write_all(STDOUT_FILENO, b" ");
-    io::print_decimal(STDOUT_FILENO, place as u64);
-    io::write_all(STDOUT_FILENO, b"\n");
+    io::write_all(STDOUT, b": ");
+    io::print_decimal(STDOUT, number as u64);
+    io::write_all(STDOUT, b" ");
+    io::print_decimal(STDOUT, place as u64);
+    io::write_all(STDOUT, b"\n");
 }
 
 fn print_refusal(refusal: Refusal) {
@@ -155,7 +157,7 @@ fn try_network(nodes: usize, edges: usize, policies: usize)
 {
     let mut out = [0u8; 40000];
     let total = put_network(&mut out, 1, nodes, edges, policies);
-    io::write_all(STDOUT_FILENO, b"network ");
+    io::write_all(STDOUT, b"network ");
     print(nodes);
     print(edges);
     print(policies);
@@ -169,7 +171,7 @@ fn try_added(policy: usize)
     let mut out = [0u8; 40000];
     let total = put_network(&mut out, 1, 1, 0, 64);
     put(&mut out, 21 + 13 * policy, 0);
-    io::write_all(STDOUT_FILENO, b"0 added by policy ");
+    io::write_all(STDOUT, b"0 added by policy ");
     print(policy);
     print_network(out, total);
 }
@@ -180,7 +182,7 @@ fn try_length(length: usize)
 {
     let mut out = [0u8; 40000];
     put_network(&mut out, 1, 512, 4096, 64);
-    io::write_all(STDOUT_FILENO, b"bytes of the largest network ");
+    io::write_all(STDOUT, b"bytes of the largest network ");
     print(length);
     print_network(out, length);
 }
@@ -194,12 +196,12 @@ fn try_join(n: usize, e: usize, m: usize, d: usize, room: usize)
     let length = put_network(&mut one, 1, n, e, 64);
     let mut other = [0u8; 40000];
     let behind = put_network(&mut other, 1 + n, m, d, 64);
-    io::write_all(STDOUT_FILENO, b"join ");
+    io::write_all(STDOUT, b"join ");
     print(n);
     print(e);
     print(m);
     print(d);
-    io::write_all(STDOUT_FILENO, b"in ");
+    io::write_all(STDOUT, b"in ");
     print(room);
     print_join(one, length, other, behind, room);
 }
@@ -211,7 +213,7 @@ fn try_list(n: usize)
     let mut out = [0u8; 40000];
     let total = 7 + 11 * n;
     put_entries(&mut out, 11, n, total);
-    io::write_all(STDOUT_FILENO, b"list ");
+    io::write_all(STDOUT, b"list ");
     print(n);
     print_list(out, total);
 }
@@ -223,7 +225,7 @@ fn try_sheet(n: usize)
     let mut out = [0u8; 40000];
     let total = 7 + 12 * n;
     put_entries(&mut out, 12, n, total);
-    io::write_all(STDOUT_FILENO, b"sheet ");
+    io::write_all(STDOUT, b"sheet ");
     print(n);
     print_sheet(out, total);
 }

@@ -8,22 +8,24 @@ ghost use Rattle.std.specs.Prelude.{◌≤◌, length};
 
 use cutting::cut;
 use layout::number_of;
-use libc::STDOUT_FILENO;
 use numbers::{u16_at, u32_at, wide, wide16};
 use outcomes::Outcome;
 use streams::{Input, read_input};
 
+// Standard output.
+const STDOUT: i32 = 1;
+
 // Prints a line: a text, a space and a number.
 fn say(text: &[u8], n: usize) {
-    io::write_all(STDOUT_FILENO, text);
-    io::write_all(STDOUT_FILENO, b" ");
-    io::print_decimal(STDOUT_FILENO, n as u64);
-    io::write_all(STDOUT_FILENO, b"\n");
+    io::write_all(STDOUT, text);
+    io::write_all(STDOUT, b" ");
+    io::print_decimal(STDOUT, n as u64);
+    io::write_all(STDOUT, b"\n");
 }
 
 // Cuts a fragment, and prints its length, or the number and the place of the refusal.
 fn say_cut(text: &[u8], network: &[u8], sheet: &[u8], k: u8, out: &mut [u8]) {
-    io::write_all(STDOUT_FILENO, text);
+    io::write_all(STDOUT, text);
     match cut(network, sheet, k, out) {
         Outcome::Done(length) => say(b" bytes", length),
         Outcome::Refused(refusal) => {
@@ -98,22 +100,22 @@ fn run(network: [u8; 124], sheet: [u8; 43]) {
 }
 
 // Reads a record of as many bytes as the room has, and answers whether that was done.
-fn read_record(room: &mut [u8]) -> bool {
+fn read_record(rt: &HostRuntime, room: &mut [u8]) -> bool {
     let length = room.len();
-    let Input::Read(got) = read_input(room, b"chain: a record could not be read\n") else {
+    let Input::Read(got) = read_input(rt, room, b"chain: a record could not be read\n") else {
         return false;
     };
     got == length
 }
 
 // The record's length is what its own length field says: a longer one would be cut short here, and refused by every cut.
-fn main() {
+fn main(rt: HostRuntime) {
     let mut network = [0u8; 124];
     let mut sheet = [0u8; 43];
-    if !read_record(&mut network) {
+    if !read_record(&rt, &mut network) {
         return;
     }
-    if !read_record(&mut sheet) {
+    if !read_record(&rt, &mut sheet) {
         return;
     }
     say(b"chain record: bytes", 4 + (u32_at(&network, 0) as usize));

@@ -103,7 +103,7 @@ fn answer(call: u8, input: &[u8], out: &mut [u8]) -> usize
 }
 
 // Writes the answer to a case, and answers whether that was done. Every answer has room; one that had none would end the run.
-fn write_answer(call: u8, input: &[u8]) -> bool {
+fn write_answer(rt: &HostRuntime, call: u8, input: &[u8]) -> bool {
     let mut out = [0u8; ROOM];
     let length = answer(call, input, &mut out);
     if ROOM < length {
@@ -112,33 +112,41 @@ fn write_answer(call: u8, input: &[u8]) -> bool {
     let mut head = [0u8; 4];
     put_u32(&mut head, 0, length as u32);
     if !write_output(
+        rt,
         &head,
         b"replay: the length of an answer could not be written\n",
     ) {
         return false;
     }
-    write_output(&out[0..length], b"replay: an answer could not be written\n")
+    write_output(
+        rt,
+        &out[0..length],
+        b"replay: an answer could not be written\n",
+    )
 }
 
 // Reads the input of a case to the end of room and writes the answer. Answers whether that was done: a case that is cut short
 // has no answer.
-fn answer_input(call: u8, room: &mut [u8]) -> bool {
+fn answer_input(rt: &HostRuntime, call: u8, room: &mut [u8]) -> bool {
     let length = room.len();
-    let Input::Read(got) = read_input(room, b"replay: the input of a case could not be read\n")
+    let Input::Read(got) = read_input(rt, room, b"replay: the input of a case could not be read\n")
     else {
         return false;
     };
     if got < length {
         return false;
     }
-    write_answer(call, room)
+    write_answer(rt, call, room)
 }
 
 // Reads a case and writes its answer. Answers whether there was one.
-fn answer_next() -> bool {
+fn answer_next(rt: &HostRuntime) -> bool {
     let mut head = [0u8; 5];
-    let Input::Read(got) = read_input(&mut head, b"replay: the head of a case could not be read\n")
-    else {
+    let Input::Read(got) = read_input(
+        rt,
+        &mut head,
+        b"replay: the head of a case could not be read\n",
+    ) else {
         return false;
     };
     if got < 5 {
@@ -149,13 +157,13 @@ fn answer_next() -> bool {
         return false;
     }
     let mut room = [0u8; ROOM];
-    answer_input(head[0], &mut room[0..length])
+    answer_input(rt, head[0], &mut room[0..length])
 }
 
 // A proved loop has to end, and nothing says that a stream does: the turns are counted down from a number that no run uses up.
-fn main() {
+fn main(rt: HostRuntime) {
     let mut turns = u64::MAX;
-    while 0 < turns && answer_next() {
+    while 0 < turns && answer_next(&rt) {
         turns -= 1;
     }
 }
