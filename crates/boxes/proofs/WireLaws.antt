@@ -15,7 +15,6 @@ use mir.Syntax.{w64}
 use mir.Val.{Fits}
 use borrow.Author.Tests.{lt-ltb, le-ltb}
 use Rattle.lists.specs.Best.{best}
-use Rattle.lists.specs.Rows.{rows}
 use Rattle.lists.specs.Stride.{at}
 use Rattle.lists.proofs.First.{first_le}
 use Rattle.lists.specs.First.{first_bad}

@@ -31,8 +31,11 @@ fn answer(rt: &HostRuntime, room: &[u8], count: usize)
 // What could not be read to its end is not counted.
 fn main(rt: HostRuntime) {
     let mut room = [0u8; LONGEST + 1];
-    let Input::Read(count) = read_input(&rt, &mut room, b"census: standard input could not be read\n")
-    else {
+    let Input::Read(count) = read_input(
+        &rt,
+        &mut room,
+        b"census: standard input could not be read\n",
+    ) else {
         return;
     };
     answer(&rt, &room, count);

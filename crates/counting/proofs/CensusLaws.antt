@@ -19,8 +19,8 @@ use Rattle.lists.proofs.Gather.{filter_rows, gathered_rows, gathered_laid}
 use Rattle.routes.specs.Carry.{highest}
 use Rattle.routes.specs.declared.Demand.{Demand}
 use Rattle.routes.specs.declared.Route.{Route}
-use Rattle.networks.specs.Network.{Own, Input, Box, own, input, box_id, as_own, as_input, own_boxes, inputs}
-use Rattle.networks.specs.Silence.{Census, census, is_route, silent, overlooked}
+use Rattle.networks.specs.Network.{Own, Input, Box, own, input, box_id, as_own, as_input, own_boxes}
+use Rattle.networks.specs.Silence.{Census, census, is_route, overlooked}
 use Rattle.layout.specs.Form.{node_width}
 use Rattle.layout.specs.Layout.{node_count, node_part, node_offset}
 use Rattle.layout.specs.declared.Form.{Form}

@@ -8,7 +8,7 @@ use mathlib.Core.List.{List, [], append-nil}
 use Prim.Native.Nat.{ℕ, ◌-◌, ◌≤◌, ◌<◌}
 use native.Mathlib.Nat.{sub-zero, zero-add}
 use lib.ListN.{length, take, drop}
-use Rattle.lists.specs.Answer.{given, refused}
+use Rattle.lists.specs.Answer.{given}
 use Rattle.lists.proofs.Answer.{given_same}
 use Rattle.routes.specs.Carry.{highest}
 use Rattle.networks.specs.Judge.{pass}

@@ -16,7 +16,7 @@ use Rattle.numbers.specs.Decimal.{decimal}
 use Rattle.layout.specs.Layout.{node_count}
 use Rattle.layout.specs.declared.Form.{Form}
 use Rattle.nodes.specs.Node.{node_id}
-use Rattle.lines.specs.Line.{text, spaced, line, line_bytes, longest_line}
+use Rattle.lines.specs.Line.{text, spaced, line_bytes, longest_line}
 use Rattle.lines.specs.Written.{Written}
 use Rattle.lines.specs.declared.Line.TheVariants.{Pass}
 use Rattle.lines.proofs.Lengths.{pass_length}

@@ -29,8 +29,11 @@ fn answer(rt: &HostRuntime, room: &[u8], count: usize)
 // What could not be read to its end is not judged.
 fn main(rt: HostRuntime) {
     let mut room = [0u8; LONGEST + 1];
-    let Input::Read(count) = read_input(&rt, &mut room, b"judge: standard input could not be read\n")
-    else {
+    let Input::Read(count) = read_input(
+        &rt,
+        &mut room,
+        b"judge: standard input could not be read\n",
+    ) else {
         return;
     };
     answer(&rt, &room, count);

@@ -5,7 +5,6 @@
 // and then put where it fits (`place_line`).
 #![tactic(auto)]
 
-
 mod answer;
 mod split;
 mod words;

@@ -8,7 +8,6 @@ use mathlib.Core.List.{List}
 use mathlib.Core.Path.{◌≡◌, refl, sym, ap, ◌∙◌}
 use lib.ListN.{get_or}
 use borrow.Author.Tests.{not-true, not-false}
-use Rattle.lists.specs.Stride.{at}
 use Rattle.routes.specs.Form.{route_at}
 use Rattle.routes.specs.Order.{same}
 use Rattle.routes.specs.declared.Route.{Route}

@@ -18,10 +18,10 @@ use Rattle.routes.specs.declared.Demand.{Demand}
 use Rattle.routes.specs.declared.Route.{Route}
 use Rattle.networks.specs.Network.{Own, Box, own, input, as_own}
 use Rattle.networks.specs.Sheets.{SheetEntry, sheet_entry, number, note}
-use Rattle.layout.specs.Layout.{entry_count, entry_offset, node_offset}
+use Rattle.layout.specs.Layout.{entry_count, entry_offset}
 use Rattle.entries.specs.Entries.{entry_id, entry_of}
 use Rattle.layout.specs.Form.{entry_width, sheet_lead}
-use Rattle.nodes.specs.Node.{node_id, is_own}
+use Rattle.nodes.specs.Node.{is_own}
 use Rattle.layout.specs.declared.Form.{Form}
 use Rattle.reading.specs.Parts.{sheet_entry_at}
 use Rattle.reading.specs.Rows.{own_in, input_in}

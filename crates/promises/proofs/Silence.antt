@@ -9,13 +9,13 @@ use native.Mathlib.Omega.{arith}
 use lib.ListN.{length-map}
 use Rattle.lists.specs.All.{All}
 use Rattle.lists.proofs.All.{all_map}
-use Rattle.lists.specs.Answer.{given, refused}
+use Rattle.lists.specs.Answer.{given}
 use Rattle.lists.specs.Bytes.{Bytes}
 use Rattle.lists.proofs.Filter.{all_mapped, all_filter_map, length_filter_map}
 use Rattle.routes.specs.declared.Demand.{Demand}
 use Rattle.routes.specs.declared.Route.{Route}
 use Rattle.routes.specs.declared.Route.TheVariants.{None}
-use Rattle.networks.specs.Judge.{pass, Passes as Passing}
+use Rattle.networks.specs.Judge.{Passes as Passing}
 use Rattle.networks.specs.Network.{Own, Box, own, input, ids, box_id, as_own, own_boxes}
 use Rattle.networks.specs.Sheets.{ListEntry}
 use Rattle.networks.specs.Silence.{Census, taken, AddsUp, census, Empty, ListsNone, silent_list}

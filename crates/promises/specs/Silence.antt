@@ -14,7 +14,7 @@ use Rattle.routes.specs.declared.Route.{Route}
 use Rattle.routes.specs.declared.Route.TheVariants.{None}
 use Rattle.networks.specs.Network.{Own, own_boxes}
 use Rattle.networks.specs.Sheets.{number}
-use Rattle.networks.specs.Silence.{Census, taken, AddsUp, census, silent, told, Empty, ListsNone, silent_list, Quiet}
+use Rattle.networks.specs.Silence.{Census, taken, AddsUp, silent, told, Empty, ListsNone, silent_list, Quiet}
 use Rattle.layout.specs.Form.{form_of, list_lead}
 use Rattle.entries.specs.Entries.{WellFormed}
 use Rattle.records.specs.Network.{SoundRecord}

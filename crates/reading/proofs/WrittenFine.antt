@@ -26,7 +26,7 @@ use Rattle.numbers.specs.BigEndian.{u16_at, u32_at}
 use Rattle.routes.specs.Form.{policy_at, route_at}
 use Rattle.routes.proofs.PolicyCodec.{policy}
 use Rattle.routes.specs.declared.Route.{Route}
-use Rattle.networks.specs.Network.{Input, own, wire_key, box_id, as_input, own_boxes, inputs}
+use Rattle.networks.specs.Network.{Input, wire_key, box_id, as_input, own_boxes}
 use Rattle.networks.specs.Sound.{Sound, Joined, sends}
 use Rattle.layout.specs.Form.{node_width, Usable, versioned}
 use Rattle.layout.specs.Layout.{node_count, edge_count, policy_count, policy_offset, node_part, edge_part, node_offset, edge_offset, total}

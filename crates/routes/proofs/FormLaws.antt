@@ -6,7 +6,7 @@ use mathlib.Core.Bool.{Bool, true, false, not, false≢true}
 use mathlib.Core.List.{List}
 use Prim.Native.Nat.{ℕ, ◌+◌, ◌-◌}
 use lib.Dec.{eqb, leb}
-use lib.ListN.{get_or, set}
+use lib.ListN.{get_or}
 use borrow.Author.Tests.{ne_eqb}
 use Rattle.numbers.specs.BigEndian.{u16_at}
 use Rattle.numbers.specs.Zeros.{zeros}

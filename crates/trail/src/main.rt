@@ -31,8 +31,11 @@ fn answer(rt: &HostRuntime, room: &[u8], count: usize)
 // By what could not be read to its end nothing is traced.
 fn main(rt: HostRuntime) {
     let mut room = [0u8; LONGEST_NAMING + 1];
-    let Input::Read(count) = read_input(&rt, &mut room, b"trail: standard input could not be read\n")
-    else {
+    let Input::Read(count) = read_input(
+        &rt,
+        &mut room,
+        b"trail: standard input could not be read\n",
+    ) else {
         return;
     };
     answer(&rt, &room, count);

@@ -1,7 +1,6 @@
 -- The first record's refusals (checking-first).
 use Rattle.records.proofs.Checked.{rows_checked}
 use Rattle.joining.proofs.CheckLaws.{checking_first}
-use borrow.Author.Rules.{rules}
 use Rattle.joining.proofs.entry.join.Goals as goal
 
 pub join_second-requires : goal.join_second-requires
