@@ -1,4 +1,4 @@
-/* Lnianotka for C and for all that calls C: link the archive that `rt staticlib library` writes (x86-64).
+/* Lnianotka for C and for all that calls C: link the archive that c/archive writes (x86-64).
  *
  * Every function takes any bytes and comes back. What it promises is proved; what a caller owes is what the types of the
  * proved functions say: a pointer is never null, not even where its length is 0, and no byte of what is written to is a byte
