@@ -40,7 +40,8 @@ fn join_alike(
         });
     }
     let edges = u16_at(first, EDGES_FIELD) as usize + u16_at(second, EDGES_FIELD) as usize;
-    if MOST_EDGES < edges {
+    let over = MOST_EDGES < edges;
+    if over {
         return Outcome::Refused(Refusal {
             class: Class::TooMany,
             place: edges,

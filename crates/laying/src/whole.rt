@@ -71,7 +71,8 @@ pub fn lay(
     let nodes = nodes as u16;
     let edges = edges as u16;
     let size = size_of(form, network[POLICIES_FIELD], nodes, edges);
-    if out.len() < size {
+    let short = out.len() < size;
+    if short {
         return size;
     }
     lay_parts(

@@ -19,7 +19,8 @@ fn stand_at(form: Form, network: &[u8], i: usize, entry: usize) -> usize
     requires { CheckedNetwork form network.now × (i < node_count network.now) × (entry ≤ 65535) }
     ensures { result ≡ stand_at form network.now i entry }
 {
-    if is_own(form, network, i) {
+    let own = is_own(form, network, i);
+    if own {
         return network.len() + (entry_offset(form, LIST_LEAD, entry) + LIST_LEAD);
     }
     node_offset(form, network, i) + 3

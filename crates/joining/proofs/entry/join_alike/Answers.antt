@@ -10,8 +10,8 @@ overflow_sub-nodes c = search (rules, joining_24, counting_joint)
 pub returns-then-form-nodes : goal.returns-then-form-nodes
 returns-then-form-nodes c = search (rules, joining_24, counting_joint)
 
-pub returns-then-edges-gt-MOST_EDGES : goal.returns-then-edges-gt-MOST_EDGES
-returns-then-edges-gt-MOST_EDGES c = search (rules, joining_24, counting_joint)
+pub returns-then-over : goal.returns-then-over
+returns-then-over c = search (rules, joining_24, counting_joint)
 
 pub lay_joint-size-requires : goal.lay_joint-size-requires
 lay_joint-size-requires c = search (rules, joining_24, counting_joint)
