@@ -1,7 +1,7 @@
 -- The wires from a row on: wires stand by their to end, so that those into a box follow one another, and behind the last there is none.
 --     wires_from, into              the wires from a row on, and those of them that lead to a box
---     wires-start, wire-other, wire-mine, wires-skipped     one wire, and the wires to lower boxes, passed over
---     edges-rise, to-climbs, wires-past     wires by their to end
+--     wires_start, wire_other, wire_mine, wires_skipped     one wire, and the wires to lower boxes, passed over
+--     edges_rise, to_climbs, wires_past     wires by their to end
 --     NextAt, next-..              the next wire, as the code holds it, is the j-th
 use mathlib.Core.Path.{◌≡◌, sym, ap, ap₂, ◌∙◌}
 use mathlib.Core.List.{List, [], ◌∷◌}

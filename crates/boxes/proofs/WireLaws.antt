@@ -1,8 +1,8 @@
 -- The wires as the code reads them: the one at an offset, the one behind it, and what each gives.
---     wire-froms, wire-behinds, wire-firsts     from one wire to the next
---     halving, wire-intos                       where the wires into a box begin
---     trans-at                                  what a wire makes of a route, by its policy
---     offers, over-is                           what a wire gives, by its sender's route
+--     wire_froms, wire_behinds, wire_firsts     from one wire to the next
+--     halving, wire_intos                       where the wires into a box begin
+--     trans_at_lem                                  what a wire makes of a route, by its policy
+--     offers, over_is                           what a wire gives, by its sender's route
 use mathlib.Core.Path.{◌≡◌, sym, ap, ap₂, ◌∙◌}
 use mathlib.Core.Bool.{true}
 use mathlib.Core.List.{List}

@@ -1,8 +1,8 @@
 -- The counts by rows are those of the census of what the records say: boxes are the rows of the nodes, and each test of a box is the
 -- test of its row.
---     tally-census      the counts
---     silent-census     the lines of the boxes that it names
---     pass-census       all of it, behind the judge's line
+--     tally_census      the counts
+--     silent_census     the lines of the boxes that it names
+--     pass_census       all of it, behind the judge's line
 use mathlib.Core.Path.{◌≡◌, refl, sym, ap, ap₂, ◌∙◌, fun_ext}
 use mathlib.Core.Bool.{Bool, true, false, cond}
 use mathlib.Core.List.{List, [], ◌++◌, filter_map, filter_map-filter_map}

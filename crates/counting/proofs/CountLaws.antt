@@ -2,8 +2,8 @@
 -- their bytes.
 --     routes                     whether a route is there
 --     carrying                   whether the node in a row holds one
---     promising-routes           whether a promise is of a route
---     asking-routes, asking-none what a demand asks
+--     promising_routes           whether a promise is of a route
+--     asking_routes, asking_none what a demand asks
 --     offsets                    where a node stands
 --     overlooking                silence that nobody asked for
 --     owning, assuming, rowing   an own box, an input, a row

@@ -1,6 +1,6 @@
 -- No census is longer than the longest: at most 28 bytes for each box that it names.
---     census-fits, census-read     the longest census's room is enough for every one
---     census-start                 what is behind an input that is over the bound does not show
+--     census_fits, census_read     the longest census's room is enough for every one
+--     census_start                 what is behind an input that is over the bound does not show
 use mathlib.Core.Path.{◌≡◌, refl}
 use mathlib.Core.List.{List, [], ◌∷◌, ◌++◌}
 use Prim.Native.Nat.{ℕ, ◌+◌, ◌-◌, ◌*◌, ◌≤◌, ◌<◌}

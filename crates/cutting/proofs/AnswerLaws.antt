@@ -1,6 +1,6 @@
 -- The cutter's answers, refusal by refusal.
---     record-roomed                          20, or the length
---     cutting-17, cutting-18, cutting-19     the others
+--     record_roomed                          20, or the length
+--     cutting_17, cutting_18, cutting_19     the others
 use Prim.Native.Nat.{ℕ, ◌≤◌, ◌<◌}
 use native.Mathlib.Omega.{arith}
 use mathlib.Core.Bool.{Bool, cond, not}

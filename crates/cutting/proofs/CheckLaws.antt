@@ -1,6 +1,6 @@
 -- What the checks of the two records leave, and the tables of all rows.
 --     checking                           the refusals of the two records
---     tables-whole                       tables whose counts are the records' own
+--     tables_whole                       tables whose counts are the records' own
 use Prim.Native.Nat.{ℕ}
 use mathlib.Core.List.{List}
 use mathlib.Core.Path.{◌≡◌, sym, ap, ◌∙◌}

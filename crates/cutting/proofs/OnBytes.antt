@@ -1,11 +1,11 @@
 -- What the cutter answers of two records, by what their bytes say: the theorems about networks, carried over by the bridges.
---     cut-said, said                  records that are not refused are cut by what they say; what is given is given of such records
---     cut-fragment, cut-sound         what is given is the fragment, and a sound network
---     record-fine, record-form, record-read, record-small     its record is not refused, has the network's form, says the fragment, and is bytes: so it can be judged, and cut again
---     record-shorter, record-largest  its record is no longer than the network's, and than the largest
---     one-record                      all own boxes in one fragment: the record is the network's own bytes
---     cut-laid, cut_short, cut-kept   the buffer with room, without, and on every refusal
---     cut-refuses                     a refusal: the network's, else the sheet's, else 17, 18 or 19, else 20
+--     cut_said_lem, said                  records that are not refused are cut by what they say; what is given is given of such records
+--     cut_fragment, cut_sound         what is given is the fragment, and a sound network
+--     record_fine, record_form, record_read, record_small     its record is not refused, has the network's form, says the fragment, and is bytes: so it can be judged, and cut again
+--     record_shorter, record_largest  its record is no longer than the network's, and than the largest
+--     one_record                      all own boxes in one fragment: the record is the network's own bytes
+--     cut_laid, cut_short, cut_kept   the buffer with room, without, and on every refusal
+--     cut_refuses                     a refusal: the network's, else the sheet's, else 17, 18 or 19, else 20
 use mathlib.Core.Path.{◌≡◌, ap, ◌∙◌}
 use mathlib.Core.Bool.{true}
 use mathlib.Core.List.{List, ◌++◌}

@@ -1,7 +1,7 @@
 -- The cutting program's output.
---     fragment-outputs         what is written of the cutter's outcome
---     cut-texts                an input that is too long, one without a rest, and one with a fragment asked
---     text-fits, text-read     the largest network's room is enough for every output
+--     fragment_outputs         what is written of the cutter's outcome
+--     cut_texts                an input that is too long, one without a rest, and one with a fragment asked
+--     text_fits, text_read     the largest network's room is enough for every output
 use mathlib.Core.Path.{◌≡◌, refl, sym, ap, ◌∙◌}
 use mathlib.Core.Bool.{true}
 use mathlib.Core.List.{List, []}

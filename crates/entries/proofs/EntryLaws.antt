@@ -1,6 +1,6 @@
 -- The entries of a sheet or a list, as the code reads them.
---     fragments, entry-forms     when an entry is well formed
---     entering, entry-rooms      the ways on of the loop over the entries, and the room that it asks for
+--     fragments, entry_forms     when an entry is well formed
+--     entering, entry_rooms      the ways on of the loop over the entries, and the room that it asks for
 use Prim.Native.Nat.{ℕ, ◌+◌, ◌^◌, ◌≤◌, ◌<◌}
 use native.Mathlib.Omega.{arith}
 use mathlib.Core.Path.{◌≡◌, refl, sym, ap, ◌∙◌}

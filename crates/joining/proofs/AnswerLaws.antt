@@ -1,5 +1,5 @@
 -- The joiner's answers, refusal by refusal.
---     joining-21, joining-22, joining-23, joining-24     each number, with its place and the buffer, and what is left where it does not apply
+--     joining_21, joining_22, joining_23, joining_24     each number, with its place and the buffer, and what is left where it does not apply
 use Prim.Native.Nat.{ℕ, ◌≤◌, ◌<◌}
 use native.Mathlib.Omega.{arith}
 use mathlib.Core.Bool.{Bool, true, false, cond, not}

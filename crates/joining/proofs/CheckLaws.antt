@@ -1,6 +1,6 @@
 -- What the checks of the two records leave.
---     checking-first, checking-second     the refusals of the two records
---     second-rows                         the second record is read by the form of the first
+--     checking_first, checking_second     the refusals of the two records
+--     second_rows                         the second record is read by the form of the first
 use Prim.Native.Nat.{ℕ}
 use mathlib.Core.List.{List}
 use mathlib.Core.Path.{◌≡◌, refl, sym, ap, ◌∙◌}

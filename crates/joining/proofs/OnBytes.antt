@@ -1,6 +1,6 @@
 -- What the joiner answers of two records, by what their bytes say.
---     join-said, said     records that are not refused are joined by what they say; what is given is given of such records
---     joint-within        the joint network is within the bounds of its form
+--     join_said_lem, said     records that are not refused are joined by what they say; what is given is given of such records
+--     joint_within        the joint network is within the bounds of its form
 use mathlib.Core.Path.{◌≡◌, refl}
 use mathlib.Core.List.{List}
 use Prim.Native.Nat.{ℕ, ◌≤◌}

@@ -1,5 +1,5 @@
 -- The record of the joint network is the four parts that are laid down: the first network's policies, and the merged nodes and edges.
---     joint-parts, joint-long, joint-kept     the record, its length, and the buffer where there is no room
+--     joint_parts, joint_long, joint_kept     the record, its length, and the buffer where there is no room
 use Prim.Native.Nat.{ℕ, ◌+◌, ◌<◌}
 use mathlib.Core.List.{List}
 use mathlib.Core.Path.{◌≡◌, refl, ◌∙◌}

@@ -1,7 +1,7 @@
 -- The joining program's output.
---     joint-outputs            what is written of the joiner's outcome
---     join-texts               an input that is too long, and one that is split in two
---     text-fits, text-read     the largest network's room is enough for every output
+--     joint_outputs            what is written of the joiner's outcome
+--     join_texts               an input that is too long, and one that is split in two
+--     text_fits, text_read     the largest network's room is enough for every output
 use mathlib.Core.Path.{◌≡◌, refl, ◌∙◌}
 use mathlib.Core.Bool.{true}
 use mathlib.Core.List.{List}

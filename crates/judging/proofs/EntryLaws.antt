@@ -1,5 +1,5 @@
 -- The entry points: what is refused before, and what the search or the lookup then answers.
---     judge-is          the refusals before the search and then the verdict are the judge's answer
+--     judge_is          the refusals before the search and then the verdict are the judge's answer
 --     judging, asking   as the judge and the lookup go
 use mathlib.Core.Path.{◌≡◌, refl, sym, ap, ◌∙◌}
 use mathlib.Core.List.{List, []}

@@ -1,6 +1,6 @@
 -- What the lookup's bytes say (document 01, 'Judging'), where judging is not refused and a node has the id.
---     neighbour-route     the route that they say is the one that the list maps the box to
---     neighbour-long      they are as many as a route has, so that an empty part is always a refusal
+--     neighbour_route     the route that they say is the one that the list maps the box to
+--     neighbour_long      they are as many as a route has, so that an empty part is always a refusal
 use mathlib.Core.Path.{◌≡◌, sym, ap, ◌∙◌}
 use mathlib.Core.Bool.{true}
 use mathlib.Core.List.{List}

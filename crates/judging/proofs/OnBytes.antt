@@ -1,10 +1,10 @@
 -- What the judge answers of two records, by what their bytes say: the theorems about networks, carried over by the bridges.
---     judge-said               records that are not refused are judged by what they say
---     judge-passes             demand 2: a list passes exactly where equations 6 to 8 hold of what it says and every demand is met
---     pass-judged              on a pass all own boxes are judged
---     judge-finds, found-judged    a finding is the first by rising id; its count is of the own boxes up to the named one
---     judge-refuses            a refusal: the network's, else the list's, else 17 at the lowest own box without an entry
---     judge-same               lists that agree on the own boxes get the same answer
+--     judge_said               records that are not refused are judged by what they say
+--     judge_passes             demand 2: a list passes exactly where equations 6 to 8 hold of what it says and every demand is met
+--     pass_judged              on a pass all own boxes are judged
+--     judge_finds, found_judged    a finding is the first by rising id; its count is of the own boxes up to the named one
+--     judge_refuses            a refusal: the network's, else the list's, else 17 at the lowest own box without an entry
+--     judge_same               lists that agree on the own boxes get the same answer
 use mathlib.Core.Path.{◌≡◌, ◌∙◌}
 use mathlib.Core.List.{List}
 use mathlib.Core.Logic.{◌⊎◌, inl, inr, ◌↔◌, ⊎_elim}

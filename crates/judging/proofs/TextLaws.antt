@@ -1,8 +1,8 @@
 -- The judging program's text.
---     finding-line             a finding's line
---     verdict-lines            the line of each verdict
---     judge-texts              an input that is too long, and one that is judged
---     line-fits, line_read     the longest line's room is enough for every line
+--     finding_line_lem             a finding's line
+--     verdict_lines            the line of each verdict
+--     judge_texts              an input that is too long, and one that is judged
+--     line_fits, line_read     the longest line's room is enough for every line
 use mathlib.Core.Path.{◌≡◌, ap, ◌∙◌}
 use mathlib.Core.List.{List}
 use Prim.Native.Nat.{ℕ, ◌-◌, ◌≤◌, ◌<◌}

@@ -1,5 +1,5 @@
 -- The record of the fragment is the parts that are laid down for the rows of the network.
---     boxes-are, boxes-count, wires-are, wires-count     the boxes and wires of the fragment, by the rows
+--     boxes_are, boxes_count, wires_are, wires_count     the boxes and wires of the fragment, by the rows
 --     recording                                          the record, as the code counts it
 use Prim.Native.Nat.{ℕ, ◌<◌}
 use native.Mathlib.Omega.{arith}

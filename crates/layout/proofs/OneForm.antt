@@ -1,8 +1,8 @@
 -- The form of a record.
---     form-known, form-usable      it is a known form, which the code can use
---     form-is                      a record with a known form's version byte has that form
---     version-test, version-byte   the version byte, as a test and as a fact
---     named-form, unnamed          what the version byte tells
+--     form_known, form_usable      it is a known form, which the code can use
+--     form_is                      a record with a known form's version byte has that form
+--     version_test, version_byte   the version byte, as a test and as a fact
+--     named_form, unnamed          what the version byte tells
 --     one_form                     two records that are taken together have one form
 use mathlib.Core.Path.{◌≡◌, refl, sym, subst, ◌∙◌}
 use mathlib.Core.Bool.{Bool, true, false, cond}

@@ -1,9 +1,9 @@
 -- Laws of offsets: where the parts begin, how they follow on each other, and that each lies within the record.
---     policy-first, node-first, edge-first, entry_first     the first of each part
---     policy-after, node-after, edge-after, entry-after     the next one
---     policy-within, node-within, edge-within, ..           each ends within as many as there are
---     node-fields                                           a node is as wide as its fields at least
---     policies-room, nodes-room, policy-room, ..            and within the bytes
+--     policy_first, node_first, edge_first, entry_first     the first of each part
+--     policy_after, node_after, edge_after, entry_after     the next one
+--     policy_within, node_within, edge_within, ..           each ends within as many as there are
+--     node_fields                                           a node is as wide as its fields at least
+--     policies_room, nodes_room, policy_room, ..            and within the bytes
 use Prim.Native.Nat.{ℕ, ◌+◌, ◌≤◌, ◌<◌}
 use native.Mathlib.Omega.{arith}
 use mathlib.Core.Path.{◌≡◌}

@@ -1,8 +1,8 @@
 -- What a program answers.
---     bound-over, bound-kept     an input that is over the program's bound, and one that is not
---     bound-short                how long the answer is at most, in both cases
+--     bound_over, bound_kept     an input that is over the program's bound, and one that is not
+--     bound_short                how long the answer is at most, in both cases
 --     answering                  a text that was placed, as another that it is equal to
---     answer-read                the text read back from the buffer
+--     answer_read                the text read back from the buffer
 use mathlib.Core.Path.{◌≡◌, ap, ◌∙◌}
 use mathlib.Core.Bool.{Bool, true, false, cond}
 use mathlib.Core.List.{List}

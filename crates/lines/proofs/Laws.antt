@@ -1,6 +1,6 @@
 -- What the code's proofs cite, in the order of the code.
 --     splitting, naming             the ways of first_length, and of an id behind the first record
---     byte-out, putting             a byte, and a word byte by byte
+--     byte_out, putting             a byte, and a word byte by byte
 --     numbering                     a number's digits
 --     adding                        numbers, each behind a space
 --     wording                       words behind words: a route's, a line's, a box's

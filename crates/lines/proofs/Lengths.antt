@@ -1,4 +1,4 @@
--- No line is longer than the longest: at most 21 bytes for each word behind its space (line-short).
+-- No line is longer than the longest: at most 21 bytes for each word behind its space (line_short).
 use Prim.Native.Nat.{ℕ, ◌+◌, ◌*◌, ◌≤◌}
 use mathlib.Core.List.{List, [], ◌∷◌, ◌++◌}
 use native.Mathlib.Omega.{arith}

@@ -1,7 +1,7 @@
 -- What words that are put one behind another come to: the laws that a text of any number of words and lines is put by.
 --     written_then                bytes behind bytes: a line behind lines
---     written-spaced, -words      a word behind a space, words behind words
---     written-line                a line: its first word, the words behind it, a line feed
+--     written_spaced, -words      a word behind a space, words behind words
+--     written_line                a line: its first word, the words behind it, a line feed
 --     placing                     a text that was measured, and then put where it fits
 use mathlib.Core.Path.{◌≡◌, refl, sym, ap, ◌∙◌}
 use mathlib.Core.List.{List, [], ◌∷◌, ◌++◌, append_assoc, append-nil}

@@ -1,11 +1,11 @@
 -- Answers told apart, and tables of refusals.
---     given-same, refused-..           answers told apart
+--     given_same, refused-..           answers told apart
 --     isSome-..                        from an entry to what it holds
---     then-given, then-refused         one call upon another's answer, taken apart
---     row-given, row-refused           a row above an answer
---     first-append, first_then         two tables one after the other; a call on what a table lets through
---     NoneApplies, first-given, ..     an answer that was given met no row, and back; first-behind for the first rows alone
---     first-meets                      what holds of every row's answer
+--     then_given, then_refused         one call upon another's answer, taken apart
+--     row_given, row_refused           a row above an answer
+--     first_append, first_then         two tables one after the other; a call on what a table lets through
+--     NoneApplies, first_given, ..     an answer that was given met no row, and back; first_behind for the first rows alone
+--     first_meets                      what holds of every row's answer
 use mathlib.Core.Path.{◌≡◌, refl, sym, ap, ◌∙◌}
 use mathlib.Core.Bool.{Bool, true, false, cond, false≢true}
 use mathlib.Core.Logic.{◌⊎◌, inl, inr}

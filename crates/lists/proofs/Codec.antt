@@ -3,8 +3,8 @@
 --     byte, blank           a single byte; zero bytes
 --     pair, named           two values one after the other; the same bytes under another type
 --     restated              the same codec, written out another way
---     rows_in, rows-forth   the two ways for values in a row
---     rows-small, rows_made what is written in a row is bytes, and is formed
+--     rows_in, rows_forth   the two ways for values in a row
+--     rows_small, rows_made what is written in a row is bytes, and is formed
 use mathlib.Core.Path.{◌≡◌, refl, sym, ap, ap₂, ◌∙◌, subst}
 use mathlib.Core.List.{List, [], ◌∷◌, ◌++◌, append_assoc}
 use Prim.Native.Nat.{ℕ, zero, suc, ◌+◌, ◌*◌, ◌≤◌, ◌<◌}

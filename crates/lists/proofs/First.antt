@@ -1,6 +1,6 @@
 -- The first failing place.
---     first-none, first-here                   its value, from what is known of the places
---     first-all, first-fails, first-before     what its value tells
+--     first_none, first_here                   its value, from what is known of the places
+--     first_all, first_fails, first_before     what its value tells
 --     every-..                                 whether it fails nowhere, and where it does not
 --     Passed, passed-..                        what a loop knows at place i, and its two exits
 use Prim.Native.Nat.{ℕ, zero, suc, ◌+◌, ◌<◌, ◌≤◌, zero-le, suc-le-suc}

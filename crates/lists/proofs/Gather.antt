@@ -2,7 +2,7 @@
 --     joined-..                         runs of bytes one behind another
 --     count-..                          how many places below n meet a test
 --     after-..                          a table after some steps
---     filter-rows                       how many rows meet a test
+--     filter_rows                       how many rows meet a test
 --     gathered-..                       what is kept at places: its runs, its number, and what a partial function keeps of rows
 use mathlib.Core.Path.{◌≡◌, refl, sym, ap, ap₂, ◌∙◌}
 use mathlib.Core.Bool.{Bool, true, false, cond}

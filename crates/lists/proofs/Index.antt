@@ -1,7 +1,7 @@
 -- A table from ids to places: at an id one more than the first place at which it stands, or 0 where it stands nowhere.
 --     mark               what the table holds at an id
 --     Indexing, ..       what a loop knows that fills a table of zeros from the last place to the first
---     table-next         a table that is filled from the first place on
+--     table_next         a table that is filled from the first place on
 use Prim.Native.Nat.{ℕ, ◌+◌, ◌-◌, ◌≤◌, ◌<◌}
 use native.Mathlib.Nat.{eq-or-lt_of_le}
 use native.Mathlib.Omega.{arith}

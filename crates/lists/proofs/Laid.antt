@@ -2,8 +2,8 @@
 --     placed-.., over-..                  a run over the start, where it fits
 --     Laid, laid-..                       what a writer knows between two parts: one part more, a part by a writer that is lent the rest, the end
 --     lent_back                           the whole, once a rest that was lent has come back
---     sets-append, stored-..              runs at an offset, one behind another
---     copy-over, copy_stored              a copy over the start, and one into a rest that is lent
+--     sets_append, stored-..              runs at an offset, one behind another
+--     copy_over, copy_stored              a copy over the start, and one into a rest that is lent
 use mathlib.Core.Path.{◌≡◌, refl, ◌∙◌, sym, ap}
 use mathlib.Core.List.{List, [], ◌++◌, append_assoc, append-nil, ◌∷◌}
 use Prim.Native.Nat.{ℕ, suc, ◌+◌, ◌-◌, ◌≤◌, ◌<◌}

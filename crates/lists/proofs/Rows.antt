@@ -1,7 +1,7 @@
 -- Rows of one width, one after another.
---     get_d_rows, getElem-rows, rows_next     one of them, and the rows that a loop has still to read
+--     get_d_rows, get_elem_rows, rows_next     one of them, and the rows that a loop has still to read
 --     rows_back                              values written one after another are read back
---     laid-map                               images laid down
+--     laid_map                               images laid down
 use mathlib.Core.Path.{◌≡◌, refl, sym, ap, ap₂, ◌∙◌}
 use mathlib.Core.Option.{some}
 use mathlib.Core.List.{List, [], ◌∷◌, ◌++◌, map, append_assoc}

@@ -1,8 +1,8 @@
 -- Rows as a list and rows by their place say the same: the bridge between theorems, which speak of lists, and loops, which speak of places.
 -- keys i is the key of the i-th row.
---     find-rows          the row with a key, and where it stands
---     rises-rows         keys that rise
---     any-rows           a test that some row meets
+--     find_rows          the row with a key, and where it stands
+--     rises_rows         keys that rise
+--     any_rows           a test that some row meets
 use mathlib.Core.Path.{◌≡◌, refl, sym, ap, ap₂, ◌∙◌}
 use mathlib.Core.Bool.{Bool, true, false, cond, not, ◌&&◌, ◌||◌}
 use mathlib.Core.Option.{Option, none, some}

@@ -1,7 +1,7 @@
 -- The union of two rising lists, known by what each key finds.
---     rising-ext                    rising lists are equal where every key finds the same
---     rises-union, find-union       the union rises, and finds at a key what the two lists find there
---     all-union, length_union       what every element of both has; how many there are
+--     rising_ext                    rising lists are equal where every key finds the same
+--     rises_union, find_union       the union rises, and finds at a key what the two lists find there
+--     all_union, length_union       what every element of both has; how many there are
 --     union_assoc, union_comm       three lists in either grouping; two in either order
 use mathlib.Core.Path.{◌≡◌, refl, sym, ap, ap₂, ◌∙◌}
 use mathlib.Core.Bool.{Bool, true, false, cond}

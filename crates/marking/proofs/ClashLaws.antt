@@ -1,5 +1,5 @@
 -- The rows that 19 looks for: own nodes that a cut wire leaves and whose promise is not their note.
---     mark-zero, mark-one     a mark by its test
+--     mark_zero, mark_one     a mark by its test
 --     clashing                whether a row is such a one
 use Prim.Native.Nat.{ℕ, ◌+◌, ◌<◌}
 use native.Mathlib.Omega.{arith}

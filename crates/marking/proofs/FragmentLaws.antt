@@ -1,8 +1,8 @@
 -- The table of fragment numbers, as the code fills and reads it.
 --     numbering                   the number of one row, and the loop over the rows
---     fragments-numbered          what the table holds
---     asking, outside-is          whether a row is an own one of a fragment (18)
---     entered-is                  what 17 asks of a row, as the sheet says it
+--     fragments_numbered          what the table holds
+--     asking, outside_is          whether a row is an own one of a fragment (18)
+--     entered_is                  what 17 asks of a row, as the sheet says it
 use Prim.Native.Nat.{ℕ, ◌+◌, ◌^◌, ◌≤◌, ◌<◌}
 use native.Mathlib.Omega.{arith}
 use mathlib.Core.Bool.{Bool, true, false, cond, not, ◌&&◌, ◌||◌, and-true, and-false}

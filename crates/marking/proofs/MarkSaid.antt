@@ -1,5 +1,5 @@
 -- The tables of marks and numbers say what the network and the sheet say of boxes and wires.
---     reaches-is            an edge into a fragment
+--     reaches_is            an edge into a fragment
 --     leaving, feeding      the marks of all edges
 use Prim.Native.Nat.{ℕ, ◌<◌}
 use native.Mathlib.Omega.{arith}

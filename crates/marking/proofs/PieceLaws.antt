@@ -2,7 +2,7 @@
 --     classifying           the code of one row, as the marks tell it
 --     piece_is              what the code says
 --     classifications       the loop over the rows
---     pieces-made           what the table of all rows holds
+--     pieces_made           what the table of all rows holds
 use Prim.Native.Nat.{ℕ, ◌+◌, ◌≤◌, ◌<◌}
 use native.Mathlib.Omega.{arith}
 use mathlib.Core.Bool.{Bool, true, false, cond, not, ◌&&◌, and-false}

@@ -1,7 +1,7 @@
 -- The node in a row: its room, its note by the table of entries, and what a fragment keeps of it.
---     index-small, node-there, promise-there     the row's places
+--     index_small, node_there, promise_there     the row's places
 --     note-.., noted                             its note
---     own-piece, other-piece                     an own box in its fragment, and in another one
+--     own_piece, other_piece                     an own box in its fragment, and in another one
 use Prim.Native.Nat.{ℕ, ◌+◌, ◌^◌, ◌≤◌, ◌<◌}
 use native.Mathlib.Omega.{arith}
 use mathlib.Core.Bool.{true, cond}

@@ -1,6 +1,6 @@
 -- What the two records say of the node in a row: its box, its entry in the sheet, its fragment number and its note.
---     own-box, input-box, meets-own, meets-input     the box in a row
---     entry-le, note-there, note-none, number-there         the sheet's entry for an id
+--     own_box, input_box, meets_own, meets_input     the box in a row
+--     entry_le, note_there, note_none, number_there         the sheet's entry for an id
 use Prim.Native.Nat.{ℕ, ◌+◌, ◌≤◌, ◌<◌}
 use mathlib.Core.Bool.{Bool, true, false}
 use mathlib.Core.List.{List}

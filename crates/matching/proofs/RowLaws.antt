@@ -1,8 +1,8 @@
 -- What a row of one network finds in the other, as the code looks it up.
---     once-laws         21: an own node that the other owns, too
---     field-rooms       the fields of a node
---     match-laws        22: what the node with the id says of an assumption
---     matching-row      22: whether a row is matched
+--     once_laws         21: an own node that the other owns, too
+--     field_rooms       the fields of a node
+--     match_laws        22: what the node with the id says of an assumption
+--     matching_row      22: whether a row is matched
 --     in_table, sharing the rows with an id of the other's, and their number
 use mathlib.Core.Path.{◌≡◌, refl, sym, ap, ◌∙◌}
 use mathlib.Core.Bool.{Bool, true, false, cond, not}

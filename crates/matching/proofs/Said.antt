@@ -1,6 +1,6 @@
 -- 21 and 22 by rows: the lowest id that the networks name is the id of the first row that the code finds.
---     twice-said, unmatched-said     the lowest box owned by both; the lowest assumption that the other network does not match
---     shared-said                    how many boxes of the one have an id of the other's
+--     twice_said, unmatched_said     the lowest box owned by both; the lowest assumption that the other network does not match
+--     shared_said                    how many boxes of the one have an id of the other's
 use mathlib.Core.Path.{◌≡◌, refl, sym, ap, ◌∙◌}
 use mathlib.Core.Bool.{Bool, true, false, cond, not, ◌&&◌, ◌||◌, false≢true}
 use mathlib.Core.List.{List, ◌∷◌, filter_map}

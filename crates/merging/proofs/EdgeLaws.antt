@@ -1,10 +1,10 @@
 -- The edges of two records as the tables of a merge, run by run.
 --     edge_tables                    the tables
---     key-fronts                    a key at the front, as the code reads it
---     run-looking, run-putting      a run: how long it is, and its bytes
---     EdgeMerge, edge-merging       the loop
+--     key_fronts                    a key at the front, as the code reads it
+--     run_looking, run_putting      a run: how long it is, and its bytes
+--     EdgeMerge, edge_merging       the loop
 --     turning                       one turn
---     turn-laid, turn-less          the loop's next turn; a row goes by in every turn, since no two edges have one key
+--     turn_laid, turn_less          the loop's next turn; a row goes by in every turn, since no two edges have one key
 use mathlib.Core.Path.{◌≡◌, refl, sym, ap, ◌∙◌, subst}
 use mathlib.Core.Bool.{Bool, true, false, cond}
 use mathlib.Core.List.{List, [], ◌∷◌, ◌++◌, append_assoc}

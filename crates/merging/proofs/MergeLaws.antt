@@ -1,6 +1,6 @@
 -- A merge of two lists that rise by a key, as a loop lays it down: the element at the lower of two fronts, then the union of what is left.
---     union-first, union-second, union-both     the union by its first element; union-ahead, union-behind by a run
---     run, run-ahead, run-behind                the first of the rows that are left, as a run of the union
+--     union_first, union_second, union_both     the union by its first element; union_ahead, union_behind by a run
+--     run, run_ahead, run_behind                the first of the rows that are left, as a run of the union
 --     Table, rest, front                        rows of a record, those that are left from one on, and the key of the first of these
 --     lower, left, Turn, turn                   one turn of the loop
 --     Merging, merge-..                         what the loop knows between two turns

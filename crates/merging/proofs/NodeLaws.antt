@@ -1,8 +1,8 @@
 -- The nodes of two records as the tables of a merge.
 --     node_tables                      the tables
---     id-fronts                       an id at the front, as the code reads it
---     node-lower, meeting-laws        the box at the lower front
---     node-merging                    the loop
+--     id_fronts                       an id at the front, as the code reads it
+--     node_lower, meeting_laws        the box at the lower front
+--     node_merging                    the loop
 use mathlib.Core.Path.{◌≡◌, refl, sym, ap, ◌∙◌}
 use mathlib.Core.Bool.{Bool, true, false, cond, false≢true, true≢false}
 use mathlib.Core.List.{List, ◌++◌}

@@ -1,10 +1,10 @@
 -- What a pass carried. Silence passes exactly where nothing starts, gets in, is promised or is asked for; what is asked for is carried; and
 -- counts of own boxes add up over fragments, since each own box is in one fragment and keeps its id and its demand there.
---     silence-passes, silent-list-passes, empty-pass     the list that holds no route anywhere
---     holding-none, quiet-counts, counts-quiet           what a census says of such a pass
---     asked-hold, none-silent, asked-holding             demands to hold a route
---     told-silent, accounted                             demands to hold none, and whose silence is left
---     silent-part, census-adds-up, cut-adds-up           fragments and whole
+--     silence_passes, silent_list_passes, empty_pass     the list that holds no route anywhere
+--     holding_none, quiet_counts, counts_quiet           what a census says of such a pass
+--     asked_hold, none_silent, asked_holding             demands to hold a route
+--     told_silent, accounted                             demands to hold none, and whose silence is left
+--     silent_part, census_adds_up, cut_adds_up           fragments and whole
 use mathlib.Core.Path.{◌≡◌, refl, sym, ap, ◌∙◌, fun_ext}
 use mathlib.Core.Bool.{Bool, true, false, cond, not, false≢true}
 use mathlib.Core.Logic.{◌↔◌}

@@ -1,16 +1,16 @@
 -- Every route has a trail back to where it started. A due route is the box's own initial one, or a wire supplies it. What a wire supplies costs
 -- more than the sender's route, so that going back ends. The own boxes whose routes cost no more than a box's are fewer at each step back
 -- (Laws/Ranks.antt): so a trail has no more wires than own boxes.
---     sender-supplies, sender-there                    the box that the trail goes back to
---     lowest-supplier                                  it is the lowest that supplies
---     sender-unstarted, sender-starts, sender-present  the trail stops exactly where a route starts, and there is one all along
---     supplies-falls                                   costs fall
---     trail_falls, trail-distinct, trail-short         every trail: no box twice, and no more wires than own boxes, under any mapping
+--     sender_supplies, sender_there                    the box that the trail goes back to
+--     lowest_supplier                                  it is the lowest that supplies
+--     sender_unstarted, sender_starts, sender_present  the trail stops exactly where a route starts, and there is one all along
+--     supplies_falls                                   costs fall
+--     trail_falls, trail_distinct, trail_short         every trail: no box twice, and no more wires than own boxes, under any mapping
 --     Settled                                          what the trail that is shown rests on
---     sender-falls, along                              what is handed on from the sender holds of every box
---     trail-next, none-alone                           the trail that is shown, box by box (trail-end: Laws/Senders.antt)
---     shown-trail, trail-exists                        it is a trail
---     shown-distinct, shown-short                      as every trail is, also of a box that holds none
+--     sender_falls, along                              what is handed on from the sender holds of every box
+--     trail_next, none_alone                           the trail that is shown, box by box (trail_end: Laws/Senders.antt)
+--     shown_trail, trail_exists                        it is a trail
+--     shown_distinct, shown_short                      as every trail is, also of a box that holds none
 --     nowhere                                          nothing comes from nothing
 use mathlib.Core.Path.{◌≡◌, refl, sym, ap, ap₂, ◌∙◌, subst}
 use mathlib.Core.Bool.{Bool, true, false, cond, true≢false, false≢true}

@@ -2,7 +2,7 @@
 -- it point by point, but for the edges, which document 01 mends.
 --     init, ass, guar, V-in, V-out, E, trans_at     the parts of an open network
 --     demanded                            the demand at a box, which document 01 adds
---     W .. guar-k                         the parts of fragment k, as the paper has them
+--     W .. guar_k                         the parts of fragment k, as the paper has them
 --     AgreesWithPaper                     what is shown of the fragment
 --     MadeUp                              a mapping that is made up of one mapping for each fragment (theorem IV.1)
 use Rattle.std.specs.Prelude.{◌≡◌, Bool, true, cond, not, ◌&&◌, ◌||◌, ℕ, eqb}

@@ -1,7 +1,7 @@
 -- The nodes of a network, as the code reads them.
---     kinds, promises, demands, node-forms     when a node is well formed
+--     kinds, promises, demands, node_forms     when a node is well formed
 --     owning, promised, asked                  what it holds
---     noding, node-rooms                       the ways on of the loop over the nodes, and the room that it asks for
+--     noding, node_rooms                       the ways on of the loop over the nodes, and the room that it asks for
 use Prim.Native.Nat.{ℕ, ◌+◌, ◌^◌, ◌≤◌, ◌<◌}
 use native.Mathlib.Omega.{arith}
 use mathlib.Core.Path.{◌≡◌, refl, sym, ap, ◌∙◌}

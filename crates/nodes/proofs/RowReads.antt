@@ -1,7 +1,7 @@
 -- Nodes by their row, as the code reads them.
---     node-reads     a node's id and kind
+--     node_reads     a node's id and kind
 --     owns           the search for an own node
---     node-named     a refusal that names a node
+--     node_named     a refusal that names a node
 use Prim.Native.Nat.{ℕ, ◌+◌, ◌≤◌, ◌<◌}
 use native.Mathlib.Omega.{arith}
 use mathlib.Core.Path.{◌≡◌, sym, ap, ◌∙◌}

@@ -1,6 +1,6 @@
 -- Runs of bytes, as the code looks at them and stores them.
---     or-none, Zeroed, zeroing   what the loop over a run of zeros knows
---     zeros-put                  the loop that stores a run of zeros, at its end
+--     or_none, Zeroed, zeroing   what the loop over a run of zeros knows
+--     zeros_put                  the loop that stores a run of zeros, at its end
 --     part_long, part_stored     a part of another slice, copied into a lent rest
 --     part_put                   a part of another slice, copied over a part that is as long
 use mathlib.Core.Path.{◌≡◌, refl, sym, ap, ◌∙◌}

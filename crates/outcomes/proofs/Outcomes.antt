@@ -1,4 +1,4 @@
--- An outcome is known by its numbers: any two with the same answer are the same (one-outcome).
+-- An outcome is known by its numbers: any two with the same answer are the same (one_outcome).
 use mathlib.Core.Path.{◌≡◌, refl, sym, ap, ◌∙◌}
 use Prim.Native.Nat.{ℕ}
 use Rattle.lists.specs.Answer.{Answer, given, refused}

@@ -1,7 +1,7 @@
 -- A record against the room for it: the length decides between the record and 20, and a refusal leaves the buffer as it was.
 --     rooms                          one law for each side of the code's test
---     record-laid, record-unlaid     a network that is given, with room for its record and without
---     room-refuses, refusal-keeps    a refusal: one of the network's own, or 20 with the record's length; the buffer on each
+--     record_laid, record_unlaid     a network that is given, with room for its record and without
+--     room_refuses, refusal_keeps    a refusal: one of the network's own, or 20 with the record's length; the buffer on each
 use Prim.Native.Nat.{ℕ, ◌≤◌, ◌<◌}
 use mathlib.Core.Bool.{Bool, true, false, cond}
 use mathlib.Core.List.{List, ◌++◌}

@@ -1,8 +1,8 @@
 -- What a program writes of an outcome.
---     outcome-lines                     one law for each way of the code: a record, 20 with its length, another refusal
---     other_than20, network-other, ..    20 is refused for want of room alone
---     record-count, record-placed       so that what is written is the record of the network that is given, or the line of its refusal
---     output-short                      the largest network's room is enough for it
+--     outcome_lines                     one law for each way of the code: a record, 20 with its length, another refusal
+--     other_than20, network_other, ..    20 is refused for want of room alone
+--     record_count, record_placed       so that what is written is the record of the network that is given, or the line of its refusal
+--     output_short                      the largest network's room is enough for it
 use mathlib.Core.Path.{◌≡◌, refl, ap, ◌∙◌}
 use mathlib.Core.Bool.{Bool, true, false, cond, not}
 use mathlib.Core.List.{List}

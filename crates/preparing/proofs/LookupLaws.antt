@@ -1,7 +1,7 @@
 -- The lookup, as the code goes: a part of one record or the other, and an empty one where no node has the id.
---     row-parts     a row's route stands in the network where the count through both records is within it, and else in the list
---     box-parts     a box's route, by its row
---     box-routes    what its bytes say
+--     row_parts     a row's route stands in the network where the count through both records is within it, and else in the list
+--     box_parts     a box's route, by its row
+--     box_routes    what its bytes say
 --     naming        whether a node has the id
 use mathlib.Core.Path.{◌≡◌, refl, ap, ◌∙◌}
 use mathlib.Core.Bool.{Bool, true, false, cond}

@@ -1,8 +1,8 @@
 -- A part of a record that holds a route, and what it says.
---     part-is, part-long, part-route     the bytes of a route, cut out of a record
+--     part_is, part_long, part_route     the bytes of a route, cut out of a record
 --     in_entry, in_node                    where the route of a node stands
---     entry-part-room, node-part-room    the room of the bytes of the route of a node
---     row-long, row-route                they are as many as a route has, and say what the node holds
+--     entry_part_room, node_part_room    the room of the bytes of the route of a node
+--     row_long, row_route                they are as many as a route has, and say what the node holds
 use mathlib.Core.Path.{◌≡◌, refl, sym, ap, ap₂, ◌∙◌}
 use mathlib.Core.Bool.{Bool, true, false, cond}
 use mathlib.Core.List.{List}

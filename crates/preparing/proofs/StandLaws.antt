@@ -1,7 +1,7 @@
 -- The table of where routes stand, as the loop over the nodes fills it.
 --     stands, filling      one row, and the loop
---     stands-entered       from the table of entries to the entries
---     stands-hold          what the table holds
+--     stands_entered       from the table of entries to the entries
+--     stands_hold          what the table holds
 use mathlib.Core.Path.{◌≡◌, refl, ap, ap₂, ◌∙◌}
 use mathlib.Core.Bool.{Bool, true, false, cond}
 use mathlib.Core.List.{List}

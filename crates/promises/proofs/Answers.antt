@@ -1,8 +1,8 @@
 -- The demands about what the functions return, proved: a suite's verdict and its cutter's answer have the numbers and values of the
 -- definitions' answers, two cases with the same are one, and so each statement follows from the one about the definitions.
---     passed-said, said, verdict-is     the judge, from its verdict to the definitions' answer and back
---     cut-said, leaves-buffer, kept-said     the cutter, likewise, and its buffer
---     out-said, out-bytes, twice-said   the record that a cut leaves, and one cut upon another's
+--     passed_said, said, verdict_is     the judge, from its verdict to the definitions' answer and back
+--     cut_said_lem, leaves_buffer, kept_said     the cutter, likewise, and its buffer
+--     out_said, out_bytes, twice_said   the record that a cut leaves, and one cut upon another's
 use mathlib.Core.Path.{◌≡◌, refl, sym, ap, ap₂, ◌∙◌}
 use mathlib.Core.List.{List}
 use mathlib.Core.Logic.{◌↔◌, ◌⊎◌, inl, inr, ⊎_elim}

@@ -1,11 +1,11 @@
 -- What a cut leaves in a buffer, by the fragment; and what a sheet that cuts a network tells of the two records.
---     into-laid, into-given, into-fragment     the record at the buffer's start is the fragment's
---     record-said                      what a fragment's record says
---     twice-said                       one cut upon another's record is one cut upon another's fragment
---     number-entered, there-asked, given-asked      fragment numbers end at 63; a fragment that is given was asked for by a byte
---     cuts-network, cuts-sheet, cuts_said    neither record is refused, and the sheet cuts what the network says
+--     into_laid, into_given, into_fragment     the record at the buffer's start is the fragment's
+--     record_said                      what a fragment's record says
+--     twice_said                       one cut upon another's record is one cut upon another's fragment
+--     number_entered, there_asked, given_asked      fragment numbers end at 63; a fragment that is given was asked for by a byte
+--     cuts_network, cuts_sheet, cuts_said    neither record is refused, and the sheet cuts what the network says
 --     of_part, parts_low               what is made of a fragment's record is made of the fragment; its number is below 64
---     said-passes, passes-said         a list passes on bytes where it passes on what they say
+--     said_passes, passes_said         a list passes on bytes where it passes on what they say
 use mathlib.Core.Path.{◌≡◌, refl, sym, ap, ◌∙◌, subst}
 use mathlib.Core.Bool.{Bool, true, false, false≢true}
 use mathlib.Core.List.{List, [], ◌∷◌}

@@ -1,7 +1,7 @@
 -- Joining, about what the functions return, proved: a suite's joiner has the numbers and values of the definitions' answers, two outcomes with the
 -- same are one, and so each statement follows from the one about the definitions.
---     leaves-joint, join-said, kept-said, out-said     the joiner and its buffer, from its outcome to the definitions
---     all_said, plan-said                              a plan of cuts and joins
+--     leaves_joint, join_said_lem, kept_said, out_said     the joiner and its buffer, from its outcome to the definitions
+--     all_said, plan_said                              a plan of cuts and joins
 use mathlib.Core.Path.{◌≡◌, refl, sym, ap₂, ◌∙◌, subst}
 use mathlib.Core.List.{List}
 use mathlib.Core.Logic.{◌↔◌}

@@ -1,7 +1,7 @@
 -- What a join leaves in a buffer, by the joint network, and what that network's record has.
---     first-sound, second-sound          what two records say that are not refused is sound within the first's bounds
---     join-joining, joint-told           what is given is the joint network, and what its record has
---     into-left, into-joint              the record at the buffer's start is the joint network's
+--     first_sound, second_sound          what two records say that are not refused is sound within the first's bounds
+--     join_joining, joint_told           what is given is the joint network, and what its record has
+--     into_left, into_joint              the record at the buffer's start is the joint network's
 use mathlib.Core.Path.{◌≡◌, refl, ◌∙◌, subst}
 use mathlib.Core.List.{List}
 use Prim.Native.Nat.{ℕ}

@@ -1,8 +1,8 @@
 -- A call that lays a record down, proved: a table of refusals with 20 below it. What it gives met no row and had room, so that the record stands
 -- over the start of the buffer; an outcome is known by its numbers.
 --     lays, keeps            an outcome and a buffer that are as asked
---     laying-given           what was given
---     leaves-laid            what is left in the buffer, by the two cases
+--     laying_given           what was given
+--     leaves_laid            what is left in the buffer, by the two cases
 use mathlib.Core.Path.{◌≡◌, refl, sym, ap, ◌∙◌}
 use mathlib.Core.Bool.{Bool, true, false, cond}
 use mathlib.Core.List.{List, [], ◌∷◌, ◌++◌}

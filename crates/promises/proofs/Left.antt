@@ -1,8 +1,8 @@
 -- The record that a call leaves at the start of a lent buffer, by the network that it is of: a cut's and a join's alike. With room it is the
 -- network's record, whatever the buffer held; without, and on a refusal, there is none.
 --     written, left                      a network's record; what is left of an answer
---     left_laid, left-given              a record that there is room for is left, and what is left is one
---     left-roomy, left-same              with room for every record; buffers of one length
+--     left_laid, left_given              a record that there is room for is left, and what is left is one
+--     left_roomy, left_same              with room for every record; buffers of one length
 --     Told, told                         what the record of a sound network has
 use mathlib.Core.Path.{◌≡◌, refl, sym, ap, ◌∙◌}
 use mathlib.Core.List.{List}

@@ -1,4 +1,4 @@
--- What the programs promise, proved. An output over the bound is a refused line whatever is behind (judge-start, cut-start, trail-start, join-start). A
+-- What the programs promise, proved. An output over the bound is a refused line whatever is behind (judge_start, cut_start, trail_start, join_start). A
 -- line's first byte is its first word's, and a box's id begins with a digit; a fragment's record is shorter than 2^16 bytes, so that its
 -- length's high byte is 0.
 use mathlib.Core.Path.{◌≡◌, refl, sym, ap, ◌∙◌, subst}

@@ -1,9 +1,9 @@
 -- The fragments of one cut, joined again, proved: a plan is followed from its parts. What each part leaves is the record of the fragment of all its
 -- numbers, which is sound, so that two of them are joined by what they say; and the network with promises added is the fragment of all numbers.
 --     two_said                       two records of networks that they are known to say
---     part-told, promising-told      a fragment's record, and the record with promises added
---     plan-left, whole-left          what a plan leaves
---     same-cut, record-cuts          the network with promises added is cut as the network is
+--     part_told, promising_told      a fragment's record, and the record with promises added
+--     plan_left, whole_left          what a plan leaves
+--     same_cut, record_cuts          the network with promises added is cut as the network is
 use mathlib.Core.Path.{◌≡◌, refl, sym, ap, ap₂, ◌∙◌, subst}
 use mathlib.Core.Bool.{Bool, true}
 use mathlib.Core.List.{List}

@@ -1,8 +1,8 @@
 -- The bridges between bytes and what they say.
---     read-network, read-sheet, read-list        bytes that are not refused say a sound network, or well-formed entries, and are its bytes
---     write-network, write-sheet, write-list     what can be held, written, is not refused and reads back as itself
---     network-bytes                              two different networks have different bytes
---     network-small                              a record is bytes
+--     read_network_lem, read_sheet_lem, read_list_lem        bytes that are not refused say a sound network, or well-formed entries, and are its bytes
+--     write_network_lem, write_sheet_lem, write_list_lem     what can be held, written, is not refused and reads back as itself
+--     network_bytes                              two different networks have different bytes
+--     network_small                              a record is bytes
 use mathlib.Core.Path.{◌≡◌, sym, ap, ◌∙◌}
 use mathlib.Core.List.{List}
 use Prim.Native.Nat.{ℕ}

@@ -1,6 +1,6 @@
 -- What is read fits its bytes, and so does a fragment of it: every number of a fragment stands in the network's bytes or in the sheet's.
---     network-fits, sheet-fits, list-fits     what is read from records that are not refused
---     fragment-fits                           a fragment of what fits
+--     network_fits, sheet_fits, list_fits     what is read from records that are not refused
+--     fragment_fits                           a fragment of what fits
 use mathlib.Core.Path.{◌≡◌, refl, subst}
 use mathlib.Core.Bool.{Bool, true, false, cond}
 use mathlib.Core.List.{List}

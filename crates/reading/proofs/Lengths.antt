@@ -1,7 +1,7 @@
 -- How long a written network is, and how many own boxes a read one has.
---     network-length                   by its counts
---     network-short, within-largest    within the bounds it is no longer than the largest
---     own-few                          no more own boxes than a table has rows
+--     network_length                   by its counts
+--     network_short, within_largest    within the bounds it is no longer than the largest
+--     own_few                          no more own boxes than a table has rows
 use mathlib.Core.Path.{◌≡◌, ap, ◌∙◌}
 use mathlib.Core.List.{List}
 use Prim.Native.Nat.{ℕ, ◌+◌, ◌*◌, ◌≤◌}

@@ -1,11 +1,11 @@
 -- What a network's bytes say of its boxes and wires, by their places: the tests of the record are the tests of the network read from it.
---     demand-row                     a box's demand
---     promise-none, promise-some     a box's promise, by its flag
---     own_row, input-row             the box in a row
---     read-ids, read-keys            a box's id and a wire's key
---     owns-read, has-box-read        a box with an id, and an own one
---     own_read, sends-read           an own box at all; a wire out of a box
---     Edge, edge-parts, parts-edge   an edge's test, taken apart and put together
+--     demand_row                     a box's demand
+--     promise_none, promise_some     a box's promise, by its flag
+--     own_row, input_row             the box in a row
+--     read_ids, read_keys            a box's id and a wire's key
+--     owns_read, has_box_read        a box with an id, and an own one
+--     own_read, sends_read           an own box at all; a wire out of a box
+--     Edge, edge_parts, parts_edge   an edge's test, taken apart and put together
 use mathlib.Core.Path.{◌≡◌, refl, sym, ap, ◌∙◌}
 use mathlib.Core.Bool.{Bool, true, false, cond, not, ◌&&◌}
 use mathlib.Core.List.{List}

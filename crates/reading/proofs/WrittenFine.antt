@@ -1,6 +1,6 @@
 -- A sound network whose numbers fit, written, is a record of which none of 1 to 10 is refused.
---     sound-fine       bytes that are formed and say a sound network
---     written-fine     the bytes that are written of one
+--     sound_fine       bytes that are formed and say a sound network
+--     written_fine     the bytes that are written of one
 use mathlib.Core.Path.{◌≡◌, refl, sym, ◌∙◌, subst}
 use mathlib.Core.Bool.{Bool, true, false, not, ◌||◌}
 use mathlib.Core.List.{List, [], ◌∷◌, ◌++◌}

@@ -1,9 +1,9 @@
 -- What a check that found nothing leaves: the facts that none of the numbers applies (NetworkFine, EntriesFine) give a reader its room and rising ids.
---     sound-checked, formed-checked                       from the facts
---     given-network, given-entries                        a form that is given is the record's own
---     network-told, entries-told                          what a check that found nothing tells of the form
---     network-checked, rows-checked, entries-checked      from what a check found
---     one_told, together-checked                          two records that are taken together
+--     sound_checked, formed_checked                       from the facts
+--     given_network, given_entries                        a form that is given is the record's own
+--     network_told, entries_told                          what a check that found nothing tells of the form
+--     network_checked, rows_checked, entries_checked      from what a check found
+--     one_told, together_checked                          two records that are taken together
 use Prim.Native.Nat.{ℕ, ◌≤◌}
 use mathlib.Core.Path.{◌≡◌, refl, sym, ap, ◌∙◌}
 use mathlib.Core.List.{List}

@@ -1,6 +1,6 @@
 -- The edges of a network, as the code reads them.
---     owned-ids             whether an own node has an id, by the table from ids to rows
---     edge-forms            when an edge is well formed
+--     owned_ids             whether an own node has an id, by the table from ids to rows
+--     edge_forms            when an edge is well formed
 use Prim.Native.Nat.{ℕ, ◌+◌}
 use native.Mathlib.Omega.{arith}
 use mathlib.Core.Path.{◌≡◌, refl}

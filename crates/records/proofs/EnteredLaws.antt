@@ -1,6 +1,6 @@
 -- The table of entries, as the loop over the nodes fills it.
---     placing-one, placing     one node, and the loop
---     entry-rows               what the table holds where every own box has an entry
+--     placing_one, placing     one node, and the loop
+--     entry_rows_lem               what the table holds where every own box has an entry
 use Prim.Native.Nat.{ℕ, ◌+◌, ◌≤◌, ◌<◌}
 use native.Mathlib.Omega.{arith}
 use mathlib.Core.Path.{◌≡◌, refl, sym, ap, ◌∙◌}

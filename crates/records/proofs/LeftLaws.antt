@@ -1,6 +1,6 @@
 -- The rows that edges leave, as the code marks and reads them.
---     marking-there, -done  the row of an edge's from end is there, and marked
---     edge-read             one edge is read
+--     marking_there, -done  the row of an edge's from end is there, and marked
+--     edge_read             one edge is read
 --     edging                the ways on of the loop over the edges
 --     leaving, inputs       an input that no edge leaves, and the loop that looks for one
 use Prim.Native.Nat.{ℕ, ◌+◌, ◌*◌, ◌^◌, ◌≤◌, ◌<◌}

@@ -1,9 +1,9 @@
 -- Rows and the table from ids to rows.
---     ids-rise, row-..               the row of a node by its id, where ids rise
+--     ids_rise, row-..               the row of a node by its id, where ids rise
 --     mark-..                        what the table tells of an id
---     rows-fine                      the table after a check that found nothing
---     rows-read                      the row of an id by the table, as the code reads it
---     filled-once, rows-after-once   there is one filled table, and one table after a check
+--     rows_fine                      the table after a check that found nothing
+--     rows_read                      the row of an id by the table, as the code reads it
+--     filled_once, rows_after_once   there is one filled table, and one table after a check
 use Prim.Native.Nat.{ℕ, ◌+◌, ◌<◌, ◌≤◌, ◌-◌}
 use native.Mathlib.Omega.{arith}
 use mathlib.Core.Path.{◌≡◌, refl, sym, ◌∙◌}

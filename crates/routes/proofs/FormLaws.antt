@@ -1,6 +1,6 @@
 -- Routes and policies as bytes, as the code reads them.
 --     forming, reading, fields_read          routes
---     preferences, policies, policy-read     policies
+--     preferences, policies, policy_read     policies
 use mathlib.Core.Path.{◌≡◌, refl, sym}
 use mathlib.Core.Bool.{Bool, true, false, not, false≢true}
 use mathlib.Core.List.{List}

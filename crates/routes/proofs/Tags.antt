@@ -1,8 +1,8 @@
 -- Masks in words: what need, bar, clear and set mean for a single tag. Tag i of a mask is its bit i, for i from 0 to 15.
---     tag-and, tag-or, tag-not     a tag of two masks together, and of all tags but those of a mask
---     tags-ext                     masks with the same tags are the same number
---     need-tags, bar-tags          need and bar
---     tag-new                      clear and set
+--     tag_and, tag_or, tag_not     a tag of two masks together, and of all tags but those of a mask
+--     tags_ext                     masks with the same tags are the same number
+--     need_tags, bar_tags          need and bar
+--     tag_new                      clear and set
 use mathlib.Core.Path.{◌≡◌, refl, sym, ap, ◌∙◌}
 use mathlib.Core.Bool.{Bool, true, false, not, xor, ◌&&◌, ◌||◌, false≢true}
 use mathlib.Core.Logic.{◌↔◌}

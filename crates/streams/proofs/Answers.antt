@@ -1,5 +1,5 @@
 -- Where the room was not filled the input is what was read of it; where it was, and is longer than the bound, what is behind does not show.
---     read-within    what was read lies within the room
+--     read_within    what was read lies within the room
 --     answered       its text is the input's
 use mathlib.Core.Path.{◌≡◌, sym, subst, ◌∙◌}
 use mathlib.Core.List.{List, append-nil}

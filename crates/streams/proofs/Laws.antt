@@ -1,5 +1,5 @@
 -- Reading, step by step: what is done lies within the room, and each step that goes on adds to it.
---     moves-behind    one read behind the bytes that are done
+--     moves_behind    one read behind the bytes that are done
 --     reading         what it adds to them
 use mathlib.Core.Path.{◌≡◌, subst}
 use mathlib.Core.List.{List}

@@ -2,7 +2,7 @@
 --     trails                     a room in which every trail fits
 --     showings                   18, a pass and its trail, and any other verdict, which has its line alone
 --     entering                   what is refused has its line alone, and of the rest something is shown
---     trail-texts                an input that is too long, and one that is read
+--     trail_texts                an input that is too long, and one that is read
 use mathlib.Core.Path.{◌≡◌, refl, sym, ap, ◌∙◌}
 use mathlib.Core.Bool.{Bool, true, false, not}
 use mathlib.Core.List.{List}

@@ -1,7 +1,7 @@
 -- No output is longer than the longest: at most a line for each own box, and for an input.
---     from-short                   the lines of a trail
---     trail-fits, trail-read       the longest trail's room is enough for every output
---     trail-start                  what is behind an input that is over the bound does not show
+--     from_short                   the lines of a trail
+--     trail_fits, trail_read       the longest trail's room is enough for every output
+--     trail_start                  what is behind an input that is over the bound does not show
 use mathlib.Core.Path.{◌≡◌}
 use mathlib.Core.Bool.{true}
 use mathlib.Core.List.{List, [], ◌∷◌, ◌++◌}

@@ -1,8 +1,8 @@
 -- The theorems about trails, of what two records say where the list passes: every policy of a sound record adds, so that a sender's route is
 -- cheaper and the trail from it is shorter.
 --     from_last, from_next       the lines of a trail that stops at its first box, and of one that goes on
---     sent-boxed, sent-cheaper   a sender is a box, and holds a cheaper route
---     behind-few                 no more boxes are behind an own box than the network has own boxes
+--     sent_boxed, sent_cheaper   a sender is a box, and holds a cheaper route
+--     behind_few                 no more boxes are behind an own box than the network has own boxes
 use mathlib.Core.Path.{◌≡◌, sym, ◌∙◌}
 use mathlib.Core.Bool.{true}
 use mathlib.Core.List.{List, ◌++◌, append-nil}

@@ -1,7 +1,7 @@
 -- The walk: a box's line, and behind it the trail from its sender, which holds a cheaper route.
---     walk-room, walk-next-room     there are offsets for a line, and for the lines behind it
---     walk-last, walk_more          the trail that ends at the box, and the one that goes on
---     walk-boxed, walk-cheaper      the sender is a box, and holds a cheaper route
+--     walk_room, walk_next_room     there are offsets for a line, and for the lines behind it
+--     walk_last, walk_more          the trail that ends at the box, and the one that goes on
+--     walk_boxed, walk_cheaper      the sender is a box, and holds a cheaper route
 use mathlib.Core.Path.{◌≡◌, sym, ap, ◌∙◌}
 use mathlib.Core.Bool.{true}
 use mathlib.Core.List.{List, ◌++◌}

@@ -1,6 +1,6 @@
 -- What stands before the nodes, as the code lays it.
 --     sized                          the length by the counts
---     counts-stored, head-stored     the counts; the head
+--     counts_stored, head_stored     the counts; the head
 --     policies                       the policies of a record, copied
 use Prim.Native.Nat.{ℕ, ◌+◌, ◌-◌, ◌≤◌}
 use native.Mathlib.Omega.{arith}

@@ -1,6 +1,6 @@
 -- Head, policies, nodes and edges, one behind another, each by a writer that is lent what remains of the buffer: the record lies over its start.
---     laid-parts        the room of each, and the whole
---     record-long, record-kept     the length; where there is no room
+--     laid_parts        the room of each, and the whole
+--     record_long, record_kept     the length; where there is no room
 use Prim.Native.Nat.{ℕ, ◌+◌, ◌-◌, ◌≤◌, ◌<◌}
 use native.Mathlib.Omega.{arith}
 use mathlib.Core.List.{List, [], ◌++◌}

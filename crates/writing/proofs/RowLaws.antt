@@ -1,5 +1,5 @@
 -- One node and one edge, as the code lays them.
---     four-over             four runs, each stored where the one before ends
+--     four_over             four runs, each stored where the one before ends
 --     node, edge            as they stand in a record
 --     promised, input       with another promise; as an input
 use Prim.Native.Nat.{ℕ, suc, ◌+◌, ◌-◌, ◌≤◌}

@@ -1,7 +1,7 @@
 -- A network with a record's policies: its record is head, policies, nodes and edges, one behind another.
---     written-parts         whatever its boxes and wires are
+--     written_parts         whatever its boxes and wires are
 --     Selected              its boxes and wires are at places; which box or wire a place keeps, if any, is the caller's
---     selected-parts        its record by the places
+--     selected_parts        its record by the places
 use Prim.Native.Nat.{ℕ, suc, ◌+◌, ◌-◌, ◌*◌, ◌≤◌}
 use native.Mathlib.Omega.{arith}
 use mathlib.Core.List.{List, ◌++◌}

@@ -1,5 +1,5 @@
--- The text fits in its room (census-fits), is what is read back from there (census-read), and answers the whole input (answered), of
--- which what is over the bound does not show (census-start).
+-- The text fits in its room (census_fits), is what is read back from there (census_read), and answers the whole input (answered), of
+-- which what is over the bound does not show (census_start).
 use Rattle.streams.proofs.Answers.{answered}
 use Rattle.judging.specs.Text.{judge_bound}
 use Rattle.counting.specs.Text.{census_text}

@@ -1,5 +1,5 @@
--- The output fits in its room (text-fits), is what is read back from there (text-read), and answers the whole input (answered), of which
--- what is over the bound does not show (cut-start).
+-- The output fits in its room (text_fits), is what is read back from there (text_read), and answers the whole input (answered), of which
+-- what is over the bound does not show (cut_start).
 use Rattle.layout.specs.Form.{node_width}
 use Rattle.reading.specs.Largest.{largest_network}
 use Rattle.streams.proofs.Answers.{answered}

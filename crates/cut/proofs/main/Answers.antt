@@ -1,4 +1,4 @@
--- The room is longer than the bound, worked out, and what was read lies within it (read-within).
+-- The room is longer than the bound, worked out, and what was read lies within it (read_within).
 use Rattle.layout.specs.Form.{node_width, entry_width}
 use Rattle.reading.specs.Largest.{largest_network, largest_entries}
 use Rattle.streams.proofs.Answers.{read_within}

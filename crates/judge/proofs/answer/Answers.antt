@@ -1,5 +1,5 @@
--- The line fits in its room (line-fits), is what is read back from there (line_read), and answers the whole input (answered), of which
--- what is over the bound does not show (judge-start).
+-- The line fits in its room (line_fits), is what is read back from there (line_read), and answers the whole input (answered), of which
+-- what is over the bound does not show (judge_start).
 use Rattle.streams.proofs.Answers.{answered}
 use Rattle.judging.specs.Text.{judge_bound, judge_text}
 use Rattle.judging.proofs.Starts.{judge_start}

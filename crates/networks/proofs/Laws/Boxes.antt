@@ -1,8 +1,8 @@
 -- The boxes of a network by kind and by id.
 --     found, there             for either kind: what the box with an id knows, and each box is the one with its id
---     own-found, input-found, own-there, input-there     the same for own boxes and for inputs
---     own-rise, input-rise     own boxes, and inputs, stand by rising id; find-own, the own box with an id
---     owned, own-box, own-fact, own_any     from `owns` to the own box, to a box, to what every own box has, and to a test that some own box meets
+--     own_found, input_found, own_there, input_there     the same for own boxes and for inputs
+--     own_rise, input_rise     own boxes, and inputs, stand by rising id; find_own, the own box with an id
+--     owned, own_box, own_fact, own_any     from `owns` to the own box, to a box, to what every own box has, and to a test that some own box meets
 use mathlib.Core.Path.{◌≡◌, refl, sym, ap, ◌∙◌, subst}
 use mathlib.Core.Bool.{Bool, true, false≢true}
 use mathlib.Core.Option.{Option, none, some, bind, none-ne-some, some-injective}

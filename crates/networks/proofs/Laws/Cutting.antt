@@ -1,7 +1,7 @@
 -- The cutter's answer, taken apart.
 --     Fits                            what `Cuts` says, box by box
---     cut-answer, own-cut, cut-given  the answers of a sheet that fits; what an answer that was given tells
---     cuts-fits                       a sheet cuts a sound network exactly where it fits
+--     cut_answer_lem, own_cut, cut_given  the answers of a sheet that fits; what an answer that was given tells
+--     cuts_fits                       a sheet cuts a sound network exactly where it fits
 use mathlib.Core.Path.{◌≡◌, refl, sym, ap, ◌∙◌}
 use mathlib.Core.Bool.{Bool, true, false, cond, not, ◌&&◌, false≢true}
 use mathlib.Core.Logic.{◌↔◌}

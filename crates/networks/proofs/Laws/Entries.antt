@@ -1,6 +1,6 @@
 -- What a sheet or a list says of a box, by its entry.
---     note-entry, note-none           the note with an entry and without
---     note-noted, same-notes          sheets with the same boxes and notes have the same note for every box
+--     note_entry, note_none           the note with an entry and without
+--     note_noted, same_notes          sheets with the same boxes and notes have the same note for every box
 --     third                           three such sheets, as `Third` has them
 use mathlib.Core.Path.{◌≡◌, refl, sym, ap, ◌∙◌}
 use mathlib.Core.Bool.{true}

@@ -1,8 +1,8 @@
 -- Two networks that are joined: the answer taken apart, and what the two then have.
---     joined-fitting                              what is given is the joint network of two that fit
---     promise-assumed, assumed-once               an owner promises what is assumed of its box; two assume the same of one
---     boxes-comm, joining-swap, fitting-comm ..   in either order
---     joining-sound                               the joint network is sound
+--     joined_fitting                              what is given is the joint network of two that fit
+--     promise_assumed, assumed_once               an owner promises what is assumed of its box; two assume the same of one
+--     boxes_comm, joining_swap, fitting_comm ..   in either order
+--     joining_sound                               the joint network is sound
 use mathlib.Core.Path.{◌≡◌, refl, sym, ap, ◌∙◌, subst}
 use mathlib.Core.Bool.{cond, true, ◌||◌, false≢true}
 use mathlib.Core.Option.{none, some}

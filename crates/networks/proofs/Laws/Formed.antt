@@ -1,7 +1,7 @@
 -- Networks whose boxes rise and whose wires fit: of soundness, the part that every cut keeps, also one with no own box.
---     Formed, sound-formed          the two facts
---     leaves-own, feeds-leaves      cut wires, where every wire leads to an own box
---     owns-fragment, fragment-formed
+--     Formed, sound_formed          the two facts
+--     leaves_own, feeds_leaves      cut wires, where every wire leads to an own box
+--     owns_fragment, fragment_formed_lem
 use mathlib.Core.Path.{◌≡◌, refl, sym, ap, ◌∙◌}
 use mathlib.Core.Bool.{Bool, true, false, cond, not, ◌&&◌, true≢false}
 use mathlib.Core.Option.{Option, none, some, map, bind}

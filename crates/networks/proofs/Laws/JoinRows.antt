@@ -1,10 +1,10 @@
 -- The rows of joining's table, each by what it says of the two networks.
---     Finds, finds-some, finds-none     a place that is the lowest id of which something holds; it is known by that
---     finds-same, finds-lower           two such places; the lower of two
---     none-once, finds-twice            21
---     lower-none, matched-all, ..       22
---     table_none, table-some            23
---     over_none, over-some              24
+--     Finds, finds_some, finds_none     a place that is the lowest id of which something holds; it is known by that
+--     finds_same, finds_lower           two such places; the lower of two
+--     none_once, finds_twice            21
+--     lower_none, matched_all, ..       22
+--     table_none, table_some            23
+--     over_none, over_some              24
 use mathlib.Core.Path.{◌≡◌, refl, sym, ap, ◌∙◌, subst}
 use mathlib.Core.Bool.{Bool, true, false, cond, not, false≢true}
 use mathlib.Core.Logic.{◌⊎◌, inl, inr, ⊎_elim}

@@ -1,12 +1,12 @@
 -- The joint network of two, by its boxes; with no word of routes. Its wires are in JointWires.
---     meeting-id, meeting-assoc, stays     of two boxes with one id the one that stays
---     OwnOnce, once-back                   no box is owned by both
---     own-both, inputs-both, wires-both    what all own boxes, inputs, wires of both have
---     box-joining, owns-joining, ..        the box with an id
---     first-own, first-input               own boxes stay as they are, and inputs that the other does not own
---     own-of-either, input-of-either       and no others are there; joining-own, what every own box then has
---     length-boxes, length-own             how many there are
---     joining-assoc                        three networks
+--     meeting_id, meeting_assoc, stays     of two boxes with one id the one that stays
+--     OwnOnce, once_back                   no box is owned by both
+--     own_both, inputs_both, wires_both    what all own boxes, inputs, wires of both have
+--     box_joining, owns_joining, ..        the box with an id
+--     first_own_lem, first_input               own boxes stay as they are, and inputs that the other does not own
+--     own_of_either, input_of_either       and no others are there; joining_own, what every own box then has
+--     length_boxes, length_own             how many there are
+--     joining_assoc                        three networks
 use mathlib.Core.Path.{◌≡◌, refl, sym, ap, ap₂, ◌∙◌}
 use mathlib.Core.Bool.{Bool, true, false, not, ◌&&◌, ◌||◌, false≢true, true≢false}
 use mathlib.Core.Logic.{◌⊎◌, inl, inr}

@@ -1,8 +1,8 @@
 -- Solutions and passing lists of the joint network of two that fit. An own box keeps its wires. An input that the other network owns is assumed
 -- to hold what its owner promises, and a solution holds its promises; so due routes agree, and a list that passes maps each box of either network
 -- to the same route as in the joint one.
---     first-due, first-solved, first-mapping ..     what the first of two has of the joint network; of the second the same, by the other order
---     joint-solved, joint-entered, joint-passes     both together
+--     first_due, first_solved, first_mapping ..     what the first of two has of the joint network; of the second the same, by the other order
+--     joint_solved, joint_entered, joint_passes     both together
 use mathlib.Core.Path.{◌≡◌, refl, sym, ap, ◌∙◌, subst}
 use mathlib.Core.Bool.{true, false≢true}
 use mathlib.Core.Logic.{◌↔◌}

@@ -1,7 +1,7 @@
 -- The wires of the joint network of two. Where no box is owned by both no wire is in both, for wires stand by their to ends, which are own boxes.
---     wires-comm, any-wires     all wires of both, whichever stands first
---     wires-into-first          an own box keeps its wires
---     length-wires              how many there are
+--     wires_comm, any_wires     all wires of both, whichever stands first
+--     wires_into_first          an own box keeps its wires
+--     length_wires              how many there are
 use mathlib.Core.Path.{◌≡◌, refl, sym, ap, ◌∙◌}
 use mathlib.Core.Bool.{Bool, true, false, cond, ◌||◌, false≢true}
 use mathlib.Core.Logic.{⊎_elim}

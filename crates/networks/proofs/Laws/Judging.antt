@@ -1,9 +1,9 @@
 -- The judge's answer, taken apart.
---     mapping-own, mapping-input         what a list maps each box to
---     fault-none, none-fault             no fault at a box is the three facts about it
---     pass-verdict, verdict-pass         a pass is no fault anywhere, with every box counted
---     verdict-found                      a finding is the first fault, with the boxes up to it counted
---     judge-given, passes-solved         the same of the judge's answer
+--     mapping_own, mapping_input         what a list maps each box to
+--     fault_none, none_fault             no fault at a box is the three facts about it
+--     pass_verdict, verdict_pass         a pass is no fault anywhere, with every box counted
+--     verdict_found                      a finding is the first fault, with the boxes up to it counted
+--     judge_given, passes_solved         the same of the judge's answer
 use mathlib.Core.Path.{◌≡◌, refl, sym, ap, ◌∙◌, subst}
 use mathlib.Core.Bool.{true, false, not}
 use mathlib.Core.Option.{Option, none, some, none-ne-some, some-injective}

@@ -1,6 +1,6 @@
 -- The lowest own box that meets a test, where there is none.
---     lowest-none, none-lowest         no own box meets a test
---     entered-none, none-entered       no own box is without an entry
+--     lowest_none, none_lowest         no own box meets a test
+--     entered_none, none_entered       no own box is without an entry
 use mathlib.Core.Path.{◌≡◌, refl, sym, ap}
 use mathlib.Core.Bool.{Bool, true, false, cond, not}
 use mathlib.Core.Option.{Option, none, some, none-ne-some}

@@ -1,6 +1,6 @@
 -- What a list maps the boxes of a fragment to, where it has the notes at the boxes that cut wires leave.
---     kept-mapping     every box that a fragment keeps is mapped to the same route there as in the whole
---     empty-passes     a fragment that nothing is in passes
+--     kept_mapping     every box that a fragment keeps is mapped to the same route there as in the whole
+--     empty_passes     a fragment that nothing is in passes
 use mathlib.Core.Path.{◌≡◌, refl, sym, ap, ◌∙◌}
 use mathlib.Core.Bool.{Bool, true, false, cond, false≢true}
 use mathlib.Core.Option.{Option, none, some, map, get_or, bind}

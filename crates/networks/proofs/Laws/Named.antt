@@ -1,8 +1,8 @@
 -- The first own box of which something holds, by rising id: the box that an answer names.
 --     Named                         the box, and that nothing of the kind holds below it
---     named_here, named-later       it is the first of a list, or stands behind the first
---     lowest-some                   the box whose id `lowest` gives
---     named-box                     it is the network's box with that id
+--     named_here, named_later       it is the first of a list, or stands behind the first
+--     lowest_some                   the box whose id `lowest` gives
+--     named_box                     it is the network's box with that id
 use mathlib.Core.Path.{◌≡◌, refl, subst}
 use mathlib.Core.Bool.{Bool, true, false, cond}
 use mathlib.Core.Option.{some, none-ne-some, some-injective}

@@ -1,8 +1,8 @@
 -- What a fragment has, in terms of the network that it is cut from; over any set κ of numbers and with no word of soundness.
---     piece-id, pieces-rise, box-piece        its boxes
---     own-boxes-fragment, own-kept, kept-own      its own boxes
---     inputs-kept, kept-inputs                its inputs
---     sends-fragment, edge-fragment, wires-into-fragment     its wires
+--     piece_id, pieces_rise, box_piece        its boxes
+--     own_boxes_fragment, own_kept, kept_own      its own boxes
+--     inputs_kept, kept_inputs                its inputs
+--     sends_fragment, edge_fragment, wires_into_fragment     its wires
 use mathlib.Core.Path.{◌≡◌, refl, sym, ap, ◌∙◌, subst}
 use mathlib.Core.Bool.{Bool, true, false, cond, ◌&&◌, and_comm}
 use mathlib.Core.Option

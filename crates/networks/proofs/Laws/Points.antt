@@ -1,8 +1,8 @@
 -- The parts of a fragment at every id, beside those of definition IV.3 of document 000.
---     by-box                    an id has no box, an input or an own box
---     into-feeds .. cut-feeds   the paper's two ways into a fragment
+--     by_box                    an id has no box, an input or an own box
+--     into_feeds .. cut_feeds   the paper's two ways into a fragment
 --     at_every                  own boxes, inputs, outputs, init, ass, guar and demands at every id
---     there, edge_at, trans-at  all boxes; edges, and what is carried over them
+--     there, edge_at, trans_at_lem  all boxes; edges, and what is carried over them
 use mathlib.Core.Path.{◌≡◌, refl, sym, ap, ap₂, ◌∙◌, subst}
 use mathlib.Core.Bool.{Bool, true, false, cond, not, ◌&&◌, ◌||◌, or-false, false≢true, true≢false}
 use mathlib.Core.List.{List}

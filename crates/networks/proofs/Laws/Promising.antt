@@ -1,10 +1,10 @@
 -- A network with promises added where cut wires leave: it has the boxes, the wires and the cut wires of the network, and what is promised once
 -- is not promised again.
---     box-promising, own-boxes-promising     its boxes
+--     box_promising, own_boxes_promising     its boxes
 --     covered                                it is the fragment that every own box is in
---     none-promised                          it is the network where no cut wire leaves
---     promising-sound                        it is sound
---     cut-promising                          every fragment of it is the network's
+--     none_promised                          it is the network where no cut wire leaves
+--     promising_sound                        it is sound
+--     cut_promising                          every fragment of it is the network's
 use mathlib.Core.Path.{◌≡◌, refl, sym, ap, ap₂, ◌∙◌}
 use mathlib.Core.Bool.{Bool, true, false, cond, not, ◌&&◌, or_self}
 use mathlib.Core.Option

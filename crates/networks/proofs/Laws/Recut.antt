@@ -3,7 +3,7 @@
 --     meet                        the numbers of two own boxes
 --     first_fits, second_fits     where Z fits the network, X fits it, and Y fits the fragments by X
 --     recut                       the fragments are equal
---     both-numbered               the own boxes that are in both
+--     both_numbered               the own boxes that are in both
 use mathlib.Core.Path.{◌≡◌, refl, sym, ap, ap₂, ◌∙◌}
 use mathlib.Core.Bool.{Bool, true, false, cond, not, ◌&&◌, ◌||◌, false≢true}
 use mathlib.Core.Option.{Option, none, some, map, bind, none-ne-some}

@@ -1,6 +1,6 @@
 -- What a refusal of judging or cutting tells.
---     lowest-own                   the lowest own box that meets a test
---     judge-17, cut-17-18-19       the refusals
+--     lowest_own                   the lowest own box that meets a test
+--     judge_17, cut_17_18_19       the refusals
 use mathlib.Core.Path.{◌≡◌, refl, sym, ap, ◌∙◌}
 use mathlib.Core.Bool.{Bool, true, false, cond, not, ◌&&◌, false≢true}
 use mathlib.Core.Logic.{◌⊎◌, inl, inr, ⊎_elim}

@@ -1,9 +1,9 @@
 -- The fragments of one cut, joined. At every id the two fragments keep what the fragment of both sets of numbers keeps, for of an own box and
 -- an input with its id the own box stays; and what is assumed of a box is its note, which its own fragment promises.
---     joining-fragments     two fragments, joined
---     fragments-fit         nothing is refused where they have no number in common; join-fragments, that they are joined
+--     joining_fragments     two fragments, joined
+--     fragments_fit         nothing is refused where they have no number in common; join_fragments, that they are joined
 --     Halves, halves        the two parts of a plan
---     parts-joined          a plan of fragments; some-among, that an own box is in what it gives
+--     parts_joined          a plan of fragments; some_among, that an own box is in what it gives
 use mathlib.Core.Path.{◌≡◌, refl, sym, ap, ap₂, ◌∙◌, fun_ext}
 use mathlib.Core.Bool.{Bool, true, false, cond, ◌&&◌, ◌||◌, or-false, and-or_distrib_left, false≢true, true≢false}
 use mathlib.Core.Option.{Option, none, some, map, bind}

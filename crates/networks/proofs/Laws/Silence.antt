@@ -1,9 +1,9 @@
 -- Where no own box holds a route, what reaches a box is what inputs are assumed to hold, behind one wire.
---     listed-silent, silent-rises        the list without a route has no route for every own box, and stands by rising id
---     bestOf-none, none-bestOf           the best of several is no route exactly where each of them is
---     trans-none                         a wire makes nothing out of no route
---     eaten-crossed, crossed-eaten       no wire gives a route exactly where the inputs' routes are eaten
---     crossed-due, due-crossed           then no route is due where none starts, and back
+--     listed_silent, silent_rises        the list without a route has no route for every own box, and stands by rising id
+--     best_of_none, none_best_of           the best of several is no route exactly where each of them is
+--     trans_none                         a wire makes nothing out of no route
+--     eaten_crossed, crossed_eaten       no wire gives a route exactly where the inputs' routes are eaten
+--     crossed_due, due_crossed           then no route is due where none starts, and back
 use mathlib.Core.Path.{◌≡◌, refl, sym, ap, ap₂, ◌∙◌}
 use mathlib.Core.Bool.{true}
 use mathlib.Core.Option

@@ -1,11 +1,11 @@
 -- Solutions, for any mapping ℒ, in a network and in its fragments.
 --     everywhere, anywhere           what every fragment's own boxes have, every own box has, and back
---     promised-note ..               promises in a fragment
---     holds-due, holds-assumed       equations 6 and 7 at the box with an id
---     solution-ext                   a solution is read at the network's boxes only
---     due-fragment                   the due route of an own box is the same in its fragment
---     whole-solved, notes-kept       what solves every fragment solves the network, and has the notes where cut wires leave
---     fragment-solved                and back
+--     promised_note ..               promises in a fragment
+--     holds_due, holds_assumed       equations 6 and 7 at the box with an id
+--     solution_ext                   a solution is read at the network's boxes only
+--     due_fragment                   the due route of an own box is the same in its fragment
+--     whole_solved, notes_kept       what solves every fragment solves the network, and has the notes where cut wires leave
+--     fragment_solved                and back
 use mathlib.Core.Path.{◌≡◌, refl, sym, ap, ◌∙◌, subst}
 use mathlib.Core.Bool.{Bool, true, false, ◌&&◌, false≢true}
 use mathlib.Core.Option.{Option, none, some, none-ne-some, some-injective}

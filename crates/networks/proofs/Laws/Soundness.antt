@@ -1,6 +1,6 @@
 -- A fragment of a sound network, by any set κ of numbers, is sound where the sheet has every entry and some own box is in it.
---     fragment-less      it has no more boxes, wires and policies
---     fragment-sound     it is sound
+--     fragment_less      it has no more boxes, wires and policies
+--     fragment_sound     it is sound
 use mathlib.Core.Path.{◌≡◌, ◌∙◌}
 use mathlib.Core.Bool.{Bool, true}
 use Prim.Native.Nat.{ℕ, ◌<◌}

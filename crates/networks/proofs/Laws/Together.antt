@@ -1,7 +1,7 @@
 -- The fragments of one sheet together. An own box has one number, and an edge goes by that of its to end. A box that feeds a fragment from
 -- outside is left by a cut wire, so that its own fragment promises its note, which the other one assumes.
 --     crossed          the from end of a cut wire
---     parts-cover      what are a sheet's fragments, each own box's among them, covers the network
+--     parts_cover      what are a sheet's fragments, each own box's among them, covers the network
 use mathlib.Core.Path.{◌≡◌, refl, sym, ap, ◌∙◌, subst}
 use mathlib.Core.Bool.{Bool, true, false, cond, not, ◌&&◌, ◌||◌, or-false, false≢true}
 use mathlib.Core.Option.{Option, none, some, bind}

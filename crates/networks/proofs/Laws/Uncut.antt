@@ -1,6 +1,6 @@
 -- A sound network whose own boxes all have one number.
---     none-leaves      no wire is cut
---     same-network     the fragment is the network
+--     none_leaves      no wire is cut
+--     same_network     the fragment is the network
 use mathlib.Core.Path.{◌≡◌, sym, ap, ◌∙◌}
 use mathlib.Core.Bool.{Bool, true, false, not, ◌&&◌, and-false}
 use Prim.Native.Nat.{ℕ}

@@ -1,7 +1,7 @@
 -- Fragments and whole, in both directions.
---     whole-agrees, whole-passes     a list that passes in every fragment has the notes, and passes in the whole
---     part-passes                    and back
---     every-part                     every fragment that the cutter gives, and every fragment
+--     whole_agrees, whole_passes     a list that passes in every fragment has the notes, and passes in the whole
+--     part_passes                    and back
+--     every_part                     every fragment that the cutter gives, and every fragment
 use mathlib.Core.Path.{◌≡◌, refl, sym, ap, ◌∙◌}
 use mathlib.Core.Bool.{Bool, true, false}
 use mathlib.Core.Option.{some}

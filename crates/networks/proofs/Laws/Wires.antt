@@ -1,8 +1,8 @@
 -- Wires stand by their to end, then by their from end; and what comes over a lawful one.
---     wire-order                 what the key of a wire says where ids are ids
---     into-rise, into-all        the wires into a box stand by rising sender, and have what every wire has
---     edge-there, edge-wire, edge-ends     there is a wire from u to v exactly where uv is an edge; of rising wires each is the one between its ends
---     trans-dearer               what comes over a lawful wire costs more
+--     wire_order                 what the key of a wire says where ids are ids
+--     into_rise, into_all        the wires into a box stand by rising sender, and have what every wire has
+--     edge_there, edge_wire, edge_ends     there is a wire from u to v exactly where uv is an edge; of rising wires each is the one between its ends
+--     trans_dearer               what comes over a lawful wire costs more
 use mathlib.Core.Path.{◌≡◌, refl, ◌∙◌}
 use mathlib.Core.Bool.{Bool, true, false, cond, ◌||◌, and_comm}
 use mathlib.Core.List.{List, [], ◌∷◌}

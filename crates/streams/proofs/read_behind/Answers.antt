@@ -1,4 +1,4 @@
--- The room that is lent is as long as what is left (moves-behind).
+-- The room that is lent is as long as what is left (moves_behind).
 use Rattle.streams.proofs.Laws.{moves_behind}
 use Rattle.streams.proofs.read_behind.Goals as goal
 

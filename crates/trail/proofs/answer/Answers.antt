@@ -1,5 +1,5 @@
--- The text fits in its room (trail-fits), is what is read back from there (trail-read), and answers the whole input (answered), of
--- which what is over the bound does not show (trail-start).
+-- The text fits in its room (trail_fits), is what is read back from there (trail_read), and answers the whole input (answered), of
+-- which what is over the bound does not show (trail_start).
 use Rattle.streams.proofs.Answers.{answered}
 use Rattle.judging.specs.Text.{naming_bound}
 use Rattle.tracing.specs.Text.{trail_text}

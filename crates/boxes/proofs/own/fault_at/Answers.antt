@@ -1,4 +1,4 @@
--- The part that the lookup hands back says the route that the list has for the box (held-fault).
+-- The part that the lookup hands back says the route that the list has for the box (held_fault).
 use Rattle.boxes.proofs.BoxLaws.{held_faults}
 use borrow.Author.Rules.{rules}
 use Rattle.boxes.proofs.own.fault_at.Goals as goal

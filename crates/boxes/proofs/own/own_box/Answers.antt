@@ -1,4 +1,4 @@
--- Id and route stand at their offsets in the node (own-is).
+-- Id and route stand at their offsets in the node (own_is).
 use Rattle.boxes.proofs.BoxLaws.{own_boxes_lem}
 use borrow.Author.Rules.{rules}
 use Rattle.boxes.proofs.own.own_box.Goals as goal

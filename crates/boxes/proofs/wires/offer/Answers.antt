@@ -1,4 +1,4 @@
--- The sender's route by the lookup, and the policy by its number, make what the wire gives (offer-is).
+-- The sender's route by the lookup, and the policy by its number, make what the wire gives (offer_is).
 use Rattle.boxes.proofs.WireLaws.{offers}
 use borrow.Author.Rules.{rules}
 use Rattle.boxes.proofs.wires.offer.Goals as goal

@@ -1,4 +1,4 @@
--- Five bytes behind a wire stands the next, or the record ends (wire-behind).
+-- Five bytes behind a wire stands the next, or the record ends (wire_behind).
 use Rattle.boxes.proofs.WireLaws.{wire_behinds}
 use borrow.Author.Rules.{rules}
 use Rattle.boxes.proofs.wires.wire_behind.Goals as goal

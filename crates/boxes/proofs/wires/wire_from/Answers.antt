@@ -1,4 +1,4 @@
--- Behind the last wire there is none (wire-none), and else its to end is read (wire-some).
+-- Behind the last wire there is none (wire_none), and else its to end is read (wire_some).
 use Rattle.boxes.proofs.WireLaws.{wire_froms}
 use borrow.Author.Rules.{rules}
 use Rattle.boxes.proofs.wires.wire_from.Goals as goal

@@ -1,4 +1,4 @@
--- The judge's line, the counts and the lines of the boxes, one behind another (pass-put).
+-- The judge's line, the counts and the lines of the boxes, one behind another (pass_put).
 use Rattle.counting.proofs.LineLaws.{passing}
 use borrow.Author.Rules.{rules}
 use Rattle.counting.proofs.text.put_census.Goals as goal

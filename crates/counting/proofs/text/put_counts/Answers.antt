@@ -1,4 +1,4 @@
--- The lines one behind another (counts-put).
+-- The lines one behind another (counts_put).
 use Rattle.counting.proofs.LineLaws.{telling}
 use borrow.Author.Rules.{rules}
 use Rattle.counting.proofs.text.put_counts.Goals as goal

@@ -1,4 +1,4 @@
--- The words one behind another are the line (name-put).
+-- The words one behind another are the line (name_put).
 use Rattle.counting.proofs.LineLaws.{telling}
 use borrow.Author.Rules.{rules}
 use Rattle.counting.proofs.text.put_name.Goals as goal

@@ -1,4 +1,4 @@
--- One law for each refusal of the two records; where neither is refused, the answer is that of what they say (records-cut).
+-- One law for each refusal of the two records; where neither is refused, the answer is that of what they say (records_cut).
 use Rattle.cutting.proofs.CheckLaws.{checking, sheet_checked}
 use Rattle.records.proofs.Checked.{rows_checked}
 use borrow.Author.Rules.{rules}

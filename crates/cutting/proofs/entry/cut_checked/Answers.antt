@@ -1,4 +1,4 @@
--- The first own box without an entry is 17 (answer-17); where there is none, both tables are filled.
+-- The first own box without an entry is 17 (answer_17); where there is none, both tables are filled.
 use Rattle.cutting.proofs.AnswerLaws.{cutting_17, all_rows}
 use borrow.Author.Rules.{rules}
 use Rattle.cutting.proofs.entry.cut_checked.Goals as goal

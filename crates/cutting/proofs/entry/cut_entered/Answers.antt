@@ -1,4 +1,4 @@
--- No row with the number is 18 (answer-18); one is what the rest asks for.
+-- No row with the number is 18 (answer_18); one is what the rest asks for.
 use Rattle.cutting.proofs.AnswerLaws.{cutting_18}
 use borrow.Author.Rules.{rules}
 use Rattle.cutting.proofs.entry.cut_entered.Goals as goal

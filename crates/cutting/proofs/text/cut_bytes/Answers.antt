@@ -1,4 +1,4 @@
--- Over the bound (text-over), nothing behind the network (text-restless), or a fragment asked (text-asked).
+-- Over the bound (text_over), nothing behind the network (text_restless), or a fragment asked (text_asked).
 use Rattle.lines.proofs.Answers.{answering}
 use Rattle.cutting.proofs.TextLaws.{cut_texts}
 use Rattle.cutting.proofs.text.cut_bytes.Goals as goal

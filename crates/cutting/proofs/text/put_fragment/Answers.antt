@@ -1,4 +1,4 @@
--- What is written of the cutter's outcome is the fragment, or the line of a refusal (fragment-outputs).
+-- What is written of the cutter's outcome is the fragment, or the line of a refusal (fragment_outputs).
 use Rattle.cutting.proofs.TextLaws.{fragment_outputs}
 use Rattle.cutting.proofs.text.put_fragment.Goals as goal
 

@@ -1,4 +1,4 @@
--- The first record's refusals (checking-first).
+-- The first record's refusals (checking_first).
 use Rattle.records.proofs.Checked.{rows_checked}
 use Rattle.joining.proofs.CheckLaws.{checking_first}
 use Rattle.joining.proofs.entry.join.Goals as goal

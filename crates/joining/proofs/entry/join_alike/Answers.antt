@@ -1,4 +1,4 @@
--- 24 by the two counts, then what is laid, and 20 (joining-24).
+-- 24 by the two counts, then what is laid, and 20 (joining_24).
 use Rattle.joining.proofs.AnswerLaws.{joining_24}
 use Rattle.joining.proofs.CountLaws.{counting_joint}
 use borrow.Author.Rules.{rules}

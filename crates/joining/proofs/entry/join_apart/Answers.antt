@@ -1,4 +1,4 @@
--- 22 (joining-22).
+-- 22 (joining_22).
 use Rattle.joining.proofs.AnswerLaws.{joining_22}
 use borrow.Author.Rules.{rules}
 use Rattle.joining.proofs.entry.join_apart.Goals as goal

@@ -1,4 +1,4 @@
--- 21 (joining-21).
+-- 21 (joining_21).
 use Rattle.joining.proofs.AnswerLaws.{joining_21}
 use borrow.Author.Rules.{rules}
 use Rattle.joining.proofs.entry.join_checked.Goals as goal

@@ -1,4 +1,4 @@
--- 23 (joining-23).
+-- 23 (joining_23).
 use Rattle.joining.proofs.AnswerLaws.{joining_23}
 use borrow.Author.Rules.{rules}
 use Rattle.joining.proofs.entry.join_matched.Goals as goal

@@ -1,4 +1,4 @@
--- The second record's refusals (checking-second).
+-- The second record's refusals (checking_second).
 use Rattle.joining.proofs.CheckLaws.{checking_second, second_rows}
 use borrow.Author.Rules.{rules}
 use Rattle.joining.proofs.entry.join_second.Goals as goal

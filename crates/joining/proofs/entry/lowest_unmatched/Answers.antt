@@ -1,4 +1,4 @@
--- The lower of the two ids by its definition (lowest-laws).
+-- The lower of the two ids by its definition (lowest_laws).
 use Rattle.joining.proofs.AnswerLaws.{lowest_laws}
 use borrow.Author.Rules.{rules}
 use Rattle.joining.proofs.entry.lowest_unmatched.Goals as goal

@@ -1,4 +1,4 @@
--- Over the bound (text-over), or split in two (text-joined).
+-- Over the bound (text_over), or split in two (text_joined).
 use Rattle.lines.proofs.Answers.{answering}
 use Rattle.joining.proofs.TextLaws.{join_texts}
 use borrow.Author.Rules.{rules}

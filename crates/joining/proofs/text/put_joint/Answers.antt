@@ -1,4 +1,4 @@
--- What is written of the joiner's outcome (joint-outputs).
+-- What is written of the joiner's outcome (joint_outputs).
 use Rattle.joining.proofs.TextLaws.{joint_outputs}
 use borrow.Author.Rules.{rules}
 use Rattle.joining.proofs.text.put_joint.Goals as goal

@@ -1,4 +1,4 @@
--- The length is known by the counts. Without the room nothing is stored (joint-kept); with it the four parts are laid (joint-parts).
+-- The length is known by the counts. Without the room nothing is stored (joint_kept); with it the four parts are laid (joint_parts).
 use Rattle.joining.proofs.RecordLaws.{recording}
 use borrow.Author.Rules.{rules}
 use Rattle.joining.proofs.whole.lay_joint.Goals as goal

@@ -1,4 +1,4 @@
--- Refused before the search (judge-refused), or what the search answers (judge-searched).
+-- Refused before the search (judge_refused), or what the search answers (judge_searched).
 use Rattle.judging.proofs.EntryLaws.{judging}
 use Rattle.preparing.proofs.GivenLaws.{prepared_after}
 use borrow.Author.Rules.{rules}

@@ -1,4 +1,4 @@
--- Empty where something is refused before the search (asked-refused), and else the part of the id (asked-named).
+-- Empty where something is refused before the search (asked_refused), and else the part of the id (asked_named).
 use Rattle.judging.proofs.EntryLaws.{asking}
 use Rattle.preparing.proofs.GivenLaws.{prepared_after}
 use borrow.Author.Rules.{rules}

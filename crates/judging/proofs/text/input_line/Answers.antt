@@ -1,4 +1,4 @@
--- Over the bound (text-over), or judged (text-judged).
+-- Over the bound (text_over), or judged (text_judged).
 use Rattle.judging.proofs.TextLaws.{judge_texts}
 use Rattle.judging.proofs.text.input_line.Goals as goal
 

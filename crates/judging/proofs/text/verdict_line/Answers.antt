@@ -1,4 +1,4 @@
--- One law for the line of each verdict (verdict-lines).
+-- One law for the line of each verdict (verdict_lines).
 use Rattle.judging.proofs.TextLaws.{verdict_lines}
 use Rattle.judging.proofs.text.verdict_line.Goals as goal
 

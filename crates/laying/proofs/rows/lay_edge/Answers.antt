@@ -1,4 +1,4 @@
--- The number of the row that the edge leads to decides whether it is laid (as-off, as-on).
+-- The number of the row that the edge leads to decides whether it is laid (as_off, as_on).
 use Rattle.laying.proofs.RowLaws.{reaching}
 use Rattle.writing.proofs.RunLaws.{runs}
 use borrow.Author.Rules.{rules}

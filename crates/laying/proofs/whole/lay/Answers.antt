@@ -1,5 +1,5 @@
--- The length is known by the counts. Without the room nothing is stored (fragment-kept); with it the four parts are laid, which are the
--- fragment's record (fragment-parts).
+-- The length is known by the counts. Without the room nothing is stored (fragment_kept); with it the four parts are laid, which are the
+-- fragment's record (fragment_parts_lem).
 use Rattle.laying.proofs.RecordLaws.{recording}
 use borrow.Author.Rules.{rules}
 use Rattle.laying.proofs.whole.lay.Goals as goal

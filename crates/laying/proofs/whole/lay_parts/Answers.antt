@@ -1,4 +1,4 @@
--- Four parts, each by a writer that is lent what remains behind the one before: they are the record (record-laid).
+-- Four parts, each by a writer that is lent what remains behind the one before: they are the record (record_laid).
 use Rattle.writing.proofs.Parts.{laid_parts}
 use Rattle.layout.proofs.Places.{policies_room}
 use borrow.Author.Rules.{rules}

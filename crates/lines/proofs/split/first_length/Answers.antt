@@ -1,4 +1,4 @@
--- Fewer than four bytes are all of them (split-short), and so is a length that points past the end (split-past); else it is length + 4 (split-within).
+-- Fewer than four bytes are all of them (split_short), and so is a length that points past the end (split_past); else it is length + 4 (split_within).
 use Rattle.lines.proofs.Laws.{splitting}
 use borrow.Author.Rules.{rules}
 use Rattle.lines.proofs.split.first_length.Goals as goal

@@ -1,4 +1,4 @@
--- No byte is 0 (named-none), one is the high one (named-one), and else the first two are the id.
+-- No byte is 0 (named_none), one is the high one (named_one), and else the first two are the id.
 use Rattle.lines.proofs.Laws.{naming}
 use Rattle.lines.proofs.split.named_id.Goals as goal
 

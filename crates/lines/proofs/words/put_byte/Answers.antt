@@ -1,4 +1,4 @@
--- Behind the room's end there is nothing to store (byte-out).
+-- Behind the room's end there is nothing to store (byte_out).
 use Rattle.lines.proofs.Laws.{byte_out}
 use Rattle.lines.proofs.words.put_byte.Goals as goal
 

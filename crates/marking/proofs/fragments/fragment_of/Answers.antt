@@ -1,4 +1,4 @@
--- An input has 64; an own node's entry is within the sheet, and has its number (own-fragment).
+-- An input has 64; an own node's entry is within the sheet, and has its number (own_fragment).
 use Rattle.marking.proofs.FragmentLaws.{numbering}
 use borrow.Author.Rules.{rules}
 use Rattle.marking.proofs.fragments.fragment_of.Goals as goal

@@ -1,4 +1,4 @@
--- Both ends of a sound edge have rows, whose numbers say what is marked (edge-left, edge-fed).
+-- Both ends of a sound edge have rows, whose numbers say what is marked (edge_left, edge_fed).
 use Rattle.marking.proofs.MarkLaws.{marking}
 use borrow.Author.Rules.{rules}
 use Rattle.marking.proofs.marks.mark_wire.Goals as goal

@@ -1,4 +1,4 @@
--- Between two turns what is laid and the union of what is left make up all edges (EdgeMerge); in every turn a row goes by (turn-less).
+-- Between two turns what is laid and the union of what is left make up all edges (EdgeMerge); in every turn a row goes by (turn_less).
 use Rattle.merging.proofs.EdgeLaws.{EdgeMerge}
 use Prim.Native.Nat.{◌+◌, ◌-◌}
 use Rattle.merging.proofs.edge_merge.merge_edges.Given as goal

@@ -1,4 +1,4 @@
--- A run is copied as it stands, and its bytes are those of its wires (run-putting).
+-- A run is copied as it stands, and its bytes are those of its wires (run_putting).
 use Rattle.merging.proofs.EdgeLaws.{run_putting, run_few}
 use borrow.Author.Rules.{rules}
 use Rattle.merging.proofs.edge_merge.put_run.Goals as goal

@@ -1,4 +1,4 @@
--- The id in a row, or a number above all ids (id-fronts).
+-- The id in a row, or a number above all ids (id_fronts).
 use Rattle.merging.proofs.NodeLaws.{id_fronts}
 use borrow.Author.Rules.{rules}
 use Rattle.merging.proofs.front.front_id.Goals as goal

@@ -1,4 +1,4 @@
--- The key in a row, or a number above all keys (key-fronts).
+-- The key in a row, or a number above all keys (key_fronts).
 use Rattle.merging.proofs.EdgeLaws.{key_fronts}
 use borrow.Author.Rules.{rules}
 use Rattle.merging.proofs.front.front_key.Goals as goal

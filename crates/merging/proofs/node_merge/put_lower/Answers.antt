@@ -1,4 +1,4 @@
--- Of two fronts the lower one is a node's, and the box there is the next (node-lower).
+-- Of two fronts the lower one is a node's, and the box there is the next (node_lower).
 use Rattle.merging.proofs.NodeLaws.{node_lower}
 use borrow.Author.Rules.{rules}
 use Rattle.merging.proofs.node_merge.put_lower.Goals as goal

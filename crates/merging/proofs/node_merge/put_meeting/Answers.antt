@@ -1,4 +1,4 @@
--- By the kinds of the two nodes (meeting-laws).
+-- By the kinds of the two nodes (meeting_laws).
 use Rattle.merging.proofs.NodeLaws.{meeting_laws}
 use borrow.Author.Rules.{rules}
 use Rattle.merging.proofs.node_merge.put_meeting.Goals as goal

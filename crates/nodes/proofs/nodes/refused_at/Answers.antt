@@ -1,4 +1,4 @@
--- The place is the node's id (node-named).
+-- The place is the node's id (node_named).
 use Rattle.nodes.proofs.RowReads.{node_named}
 use Rattle.nodes.proofs.nodes.refused_at.Goals as goal
 

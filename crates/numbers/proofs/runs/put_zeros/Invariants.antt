@@ -1,4 +1,4 @@
--- After i turns a run of i zeros is stored (stored-again), and after n turns all of them.
+-- After i turns a run of i zeros is stored (stored_again), and after n turns all of them.
 use lib.Seq.{sets}
 use lib.ListN.{length, replicate}
 use mathlib.Core.Path.{◌≡◌}

@@ -1,4 +1,4 @@
--- One law for each outcome: the record, 20 with its length, another refusal (outcome-lines).
+-- One law for each outcome: the record, 20 with its length, another refusal (outcome_lines).
 use Rattle.outcomes.proofs.TextLaws.{outcome_lines}
 use Rattle.outcomes.proofs.text.place_outcome.Goals as goal
 

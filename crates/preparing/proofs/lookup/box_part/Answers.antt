@@ -1,4 +1,4 @@
--- By the row that the table has for the id (box-is).
+-- By the row that the table has for the id (box_is).
 use Rattle.preparing.proofs.LookupLaws.{box_parts}
 use Rattle.preparing.proofs.PreparedLaws.{prepared}
 use borrow.Author.Rules.{rules}

@@ -1,4 +1,4 @@
--- The bytes that are handed back for the box say what it holds (box-routes).
+-- The bytes that are handed back for the box say what it holds (box_routes).
 use Rattle.preparing.proofs.LookupLaws.{box_routes}
 use borrow.Author.Rules.{rules}
 use Rattle.preparing.proofs.lookup.box_route.Goals as goal

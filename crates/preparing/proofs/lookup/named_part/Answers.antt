@@ -1,4 +1,4 @@
--- The table has 0 at an id that no node has (named-nobody), and else the part is the box's (named-box).
+-- The table has 0 at an id that no node has (named_nobody), and else the part is the box's (named_box).
 use Rattle.preparing.proofs.LookupLaws.{naming}
 use borrow.Author.Rules.{rules}
 use Rattle.preparing.proofs.lookup.named_part.Goals as goal

@@ -1,4 +1,4 @@
--- The count through both records is within the network, and the row is an input's (network-part), or it is not, and the row is an own box's (list-part).
+-- The count through both records is within the network, and the row is an input's (network_part), or it is not, and the row is an own box's (list_part).
 use Rattle.preparing.proofs.LookupLaws.{row_parts}
 use borrow.Author.Rules.{rules}
 use Rattle.preparing.proofs.lookup.row_part.Goals as goal

@@ -1,4 +1,4 @@
--- The first own box without an entry is 17 (entry-lacking); where there is none the table is filled (all-standing).
+-- The first own box without an entry is 17 (entry_lacking); where there is none the table is filled (all_standing).
 use Rattle.preparing.proofs.PrepareLaws.{entering}
 use borrow.Author.Rules.{rules}
 use Rattle.preparing.proofs.tables.enter.Goals as goal

@@ -1,4 +1,4 @@
--- The network's refusals (network-refused), the list's (list-refused), and then what the entries give (records-entered).
+-- The network's refusals (network_refused), the list's (list_refused), and then what the entries give (records_entered).
 use Rattle.preparing.proofs.PrepareLaws.{preparing, list_checked}
 use Rattle.records.proofs.Checked.{network_checked}
 use borrow.Author.Rules.{rules}

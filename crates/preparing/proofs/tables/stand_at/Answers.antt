@@ -1,4 +1,4 @@
--- An own box's route stands in its entry (stand-own), an input's in its node (stand-input).
+-- An own box's route stands in its entry (stand_own), an input's in its node (stand_input).
 use Rattle.preparing.proofs.StandLaws.{stands}
 use borrow.Author.Rules.{rules}
 use Rattle.preparing.proofs.tables.stand_at.Goals as goal

@@ -1,4 +1,4 @@
--- The table from ids to rows has the row, and that row is marked (marking-done).
+-- The table from ids to rows has the row, and that row is marked (marking_done).
 use Rattle.records.proofs.LeftLaws.{marking_done}
 use borrow.Author.Rules.{rules}
 use Rattle.records.proofs.edges.mark_left.Goals as goal

@@ -1,4 +1,4 @@
--- The table has one more than the row (rows-read).
+-- The table has one more than the row (rows_read).
 use Rattle.records.proofs.RowLaws.{rows_read}
 use borrow.Author.Rules.{rules}
 use Rattle.records.proofs.rows.row_in.Goals as goal
