@@ -1,6 +1,6 @@
 -- The census of a list: by its verdict, and by what is refused before.
 --     tally_is                   the counts together
---     judged-standing, verdicts  a pass is counted, and any other verdict has its line alone
+--     judged_standing, verdicts  a pass is counted, and any other verdict has its line alone
 --     entering                   what is refused has its line alone, and the rest is judged
 --     census_texts               an input that is too long, and one that is counted
 use mathlib.Core.Path.{◌≡◌, refl, sym, ap, ◌∙◌}

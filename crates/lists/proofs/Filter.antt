@@ -3,7 +3,7 @@
 --     first_that     the first element that meets a test (the lowest of a rising list: first_that_lowest of Sorted)
 --     length-..     how many elements meet a test, or are images
 --     map           what any and All say of it
---     filter_map     its laws, and what any and All say of it (twice over: filterMap-filterMap of mathlib.Core.List)
+--     filter_map     its laws, and what any and All say of it (twice over: filter_map-filter_map of mathlib.Core.List)
 use mathlib.Core.Path.{◌≡◌, refl, sym, ap, ap₂, ◌∙◌, subst}
 use mathlib.Core.Bool.{Bool, true, false, cond, not, ◌&&◌, ◌||◌, and_comm, false≢true}
 use mathlib.Core.Option.{Option, none, some, Option-elim, none-ne-some, some-ne-none, some-injective}

@@ -1,5 +1,5 @@
 -- The rows that edges with a property leave.
---     marks-long, marks_say     a table of marks, after the edges are passed
+--     marks_long, marks_say     a table of marks, after the edges are passed
 use Prim.Native.Nat.{ℕ, zero, suc, ◌≤◌, ◌<◌}
 use native.Mathlib.Numerals.{add-one}
 use native.Mathlib.Omega.{arith}
