@@ -156,7 +156,7 @@ def main():
         after = re.sub(r"`[^`\n]*`", quoted, text)
         if after != text:
             open(path, "w").write(after)
-    with open("/tmp/respelled.txt", "w") as said:
+    with open("tools/respelled.txt", "w") as said:
         for word in sorted(new):
             said.write(f"{word} {new[word]}\n")
     print(len(new), "names")

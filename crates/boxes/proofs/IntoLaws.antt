@@ -2,7 +2,7 @@
 --     wires_from, into              the wires from a row on, and those of them that lead to a box
 --     wires_start, wire_other, wire_mine, wires_skipped     one wire, and the wires to lower boxes, passed over
 --     edges_rise, to_climbs, wires_past     wires by their to end
---     NextAt, next-..              the next wire, as the code holds it, is the j-th
+--     NextAt, next_..              the next wire, as the code holds it, is the j-th
 use mathlib.Core.Path.{◌≡◌, sym, ap, ap₂, ◌∙◌}
 use mathlib.Core.List.{List, [], ◌∷◌}
 use mathlib.Core.Logic.{⊎_elim}

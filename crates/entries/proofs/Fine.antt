@@ -2,7 +2,7 @@
 --     none_bad, bad_none               a row "the first bad one is below the count" that did not apply
 --     entries_fine, fine_entries       the facts, over the form
 --     fine_entries_room                the record is as long as its count says
---     entry_ids_rise, entry-..         ids rise, and the row of an entry by its id
+--     entry_ids_rise, entry_..         ids rise, and the row of an entry by its id
 use Prim.Native.Nat.{ℕ, ◌+◌, ◌≤◌, ◌<◌}
 use native.Mathlib.Omega.{arith}
 use mathlib.Core.Path.{◌≡◌, refl}

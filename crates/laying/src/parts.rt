@@ -20,7 +20,7 @@ pub fn lay_nodes(
     out: &mut [u8],
 ) -> usize
     requires node_tables { NodeTables form network.now sheet.now entries.now pieces.now }
-    requires pieces_in_bounds { length (nodes_in form network.now sheet.now entries.now pieces.now) ≤ length out.old }
+    requires room { length (nodes_in form network.now sheet.now entries.now pieces.now) ≤ length out.old }
     ensures size { result ≡ length (nodes_in form network.now sheet.now entries.now pieces.now) }
     ensures laid { out.new ≡ over (nodes_in form network.now sheet.now entries.now pieces.now) out.old }
 {
@@ -45,7 +45,7 @@ pub fn lay_edges(
     out: &mut [u8],
 )
     requires checked_network { CheckedNetwork form network.now × Filled form network.now rows.now }
-    requires k_in_bounds { length (edges_in form network.now fragments.now k) ≤ length out.old }
+    requires room { length (edges_in form network.now fragments.now k) ≤ length out.old }
     ensures { out.new ≡ over (edges_in form network.now fragments.now k) out.old }
 {
     let n = u16_at(network, EDGES_FIELD) as usize;

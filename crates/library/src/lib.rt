@@ -1,4 +1,4 @@
-// What programs in other languages link: the check, the judge, the census, the trail, the cutter and the joiner, from bytes to bytes, and the
+// What programs in other languages call: the check, the judge, the census, the trail, the cutter and the joiner, from bytes to bytes, and the
 // rooms that these take.
 //
 // The crate `library_c` hands them to C under their own names (c/lnianotka.h). No function has a `requires`: a caller in

@@ -1,8 +1,8 @@
 -- What a fact at every element, and a test over a list, come to.
---     all-..          a fact at every element
+--     all_..          a fact at every element
 --     all, any        tests, to facts and back
---     allAlike-..     two lists with the same elements
---     distinct-..     numbers that are all different, of two lists one after the other
+--     all_alike_..     two lists with the same elements
+--     distinct_..     numbers that are all different, of two lists one after the other
 use mathlib.Core.Path.{◌≡◌, refl, sym, ap₂, ◌∙◌, ap, subst}
 use mathlib.Core.Bool.{Bool, true, false, ◌||◌, or_assoc, false≢true}
 use mathlib.Core.List.{List, [], ◌∷◌, ◌++◌}

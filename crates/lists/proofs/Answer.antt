@@ -1,6 +1,6 @@
 -- Answers told apart, and tables of refusals.
---     given_same, refused-..           answers told apart
---     isSome-..                        from an entry to what it holds
+--     given_same, refused_..           answers told apart
+--     is_some_..                        from an entry to what it holds
 --     then_given, then_refused         one call upon another's answer, taken apart
 --     row_given, row_refused           a row above an answer
 --     first_append, first_then         two tables one after the other; a call on what a table lets through

@@ -1,9 +1,9 @@
 -- The best of two.
---     decide-..          one decision, over what the decisions below it say
+--     decide_..          one decision, over what the decisions below it say
 --     Order              what a test must keep for the best of a set to be one value
---     decided-..         decisions one under the other, and the order that they are where they tell all values apart
+--     decided_..         decisions one under the other, and the order that they are where they tell all values apart
 --     undecided_self     no decision tells a value from itself
---     best-..            the best of two, and its laws
+--     best_..            the best of two, and its laws
 use mathlib.Core.Path.{◌≡◌, refl, sym, ◌∙◌}
 use mathlib.Core.Bool.{Bool, true, false, cond, false≢true}
 use mathlib.Core.List.{List, [], ◌∷◌}

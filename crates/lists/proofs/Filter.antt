@@ -1,7 +1,7 @@
 -- The elements that meet a test, and the images that a partial function gives, in order.
 --     filter        its laws, and what any and All say of it
 --     first_that     the first element that meets a test (the lowest of a rising list: first_that_lowest of Sorted)
---     length-..     how many elements meet a test, or are images
+--     length_..     how many elements meet a test, or are images
 --     map           what any and All say of it
 --     filter_map     its laws, and what any and All say of it (twice over: filter_map-filter_map of mathlib.Core.List)
 use mathlib.Core.Path.{◌≡◌, refl, sym, ap, ap₂, ◌∙◌, subst}

@@ -1,8 +1,8 @@
 -- The first failing place.
 --     first_none, first_here                   its value, from what is known of the places
 --     first_all, first_fails, first_before     what its value tells
---     every-..                                 whether it fails nowhere, and where it does not
---     Passed, passed-..                        what a loop knows at place i, and its two exits
+--     every_..                                 whether it fails nowhere, and where it does not
+--     Passed, passed_..                        what a loop knows at place i, and its two exits
 use Prim.Native.Nat.{ℕ, zero, suc, ◌+◌, ◌<◌, ◌≤◌, zero-le, suc-le-suc}
 use native.Mathlib.Nat.{le_of_suc-le-suc, not-suc-le-zero}
 use native.Mathlib.Omega.{arith}

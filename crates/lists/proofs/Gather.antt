@@ -1,9 +1,9 @@
 -- What a loop gathers place by place.
---     joined-..                         runs of bytes one behind another
---     count-..                          how many places below n meet a test
---     after-..                          a table after some steps
+--     joined_..                         runs of bytes one behind another
+--     count_..                          how many places below n meet a test
+--     after_..                          a table after some steps
 --     filter_rows                       how many rows meet a test
---     gathered-..                       what is kept at places: its runs, its number, and what a partial function keeps of rows
+--     gathered_..                       what is kept at places: its runs, its number, and what a partial function keeps of rows
 use mathlib.Core.Path.{◌≡◌, refl, sym, ap, ap₂, ◌∙◌}
 use mathlib.Core.Bool.{Bool, true, false, cond}
 use mathlib.Core.Logic.{⊎_elim}

@@ -1,8 +1,8 @@
 -- What a writer laid down in a lent buffer: over its start (`over`), or at an offset (`sets` of lib.Seq).
---     placed-.., over-..                  a run over the start, where it fits
---     Laid, laid-..                       what a writer knows between two parts: one part more, a part by a writer that is lent the rest, the end
+--     placed_.., over_..                  a run over the start, where it fits
+--     Laid, laid_..                       what a writer knows between two parts: one part more, a part by a writer that is lent the rest, the end
 --     lent_back                           the whole, once a rest that was lent has come back
---     sets_append, stored-..              runs at an offset, one behind another
+--     sets_append, stored_..              runs at an offset, one behind another
 --     copy_over, copy_stored              a copy over the start, and one into a rest that is lent
 use mathlib.Core.Path.{◌≡◌, refl, ◌∙◌, sym, ap}
 use mathlib.Core.List.{List, [], ◌++◌, append_assoc, append-nil, ◌∷◌}

@@ -1,7 +1,7 @@
 -- A table of ids that rise strictly, by place.
---     least-.., place-..    the least id that may stand at a place; where an id stands, by a search from the front
---     Between, mid-..       what a search by halving knows
---     Climbing, Around, around-..     the same of ids that may repeat, for the first that is not below another
+--     least_.., place_..    the least id that may stand at a place; where an id stands, by a search from the front
+--     Between, mid_..       what a search by halving knows
+--     Climbing, Around, around_..     the same of ids that may repeat, for the first that is not below another
 use Prim.Native.Nat.{ℕ, zero, suc, ◌+◌, ◌-◌, ◌/◌, ◌<◌, ◌≤◌, zero-le}
 use native.Mathlib.Nat.{le_of_suc-le-suc, not-suc-le-zero, eq-or-lt_of_le}
 use native.Mathlib.Numerals.{add-one}

@@ -1,7 +1,7 @@
 -- A loop over n parts that carries the offset of the i-th and looks for the first bad one.
---     Seek, seek-..       the loop alone, with no offset
---     Walk, walk-..       the loop that carries the offset
---     Climb, climb-..     the loop where ids are to rise, which carries the least id that may come
+--     Seek, seek_..       the loop alone, with no offset
+--     Walk, walk_..       the loop that carries the offset
+--     Climb, climb_..     the loop where ids are to rise, which carries the least id that may come
 -- A part is judged by a test on its offset, whose answer the code holds. The laws over the parts of a record are made of these.
 use Prim.Native.Nat.{ℕ, ◌+◌, ◌≤◌, ◌<◌, zero-le}
 use native.Mathlib.Omega.{arith}

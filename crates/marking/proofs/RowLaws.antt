@@ -1,6 +1,6 @@
 -- The node in a row: its room, its note by the table of entries, and what a fragment keeps of it.
 --     index_small, node_there, promise_there     the row's places
---     note-.., noted                             its note
+--     note_.., noted                             its note
 --     own_piece, other_piece                     an own box in its fragment, and in another one
 use Prim.Native.Nat.{ℕ, ◌+◌, ◌^◌, ◌≤◌, ◌<◌}
 use native.Mathlib.Omega.{arith}

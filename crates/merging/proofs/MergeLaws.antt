@@ -3,7 +3,7 @@
 --     run, run_ahead, run_behind                the first of the rows that are left, as a run of the union
 --     Table, rest, front                        rows of a record, those that are left from one on, and the key of the first of these
 --     lower, left, Turn, turn                   one turn of the loop
---     Merging, merge-..                         what the loop knows between two turns
+--     Merging, merge_..                         what the loop knows between two turns
 use mathlib.Core.Path.{◌≡◌, refl, sym, ap, ap₂, ◌∙◌, subst}
 use mathlib.Core.Bool.{Bool, true, false, cond}
 use mathlib.Core.List.{List, [], ◌∷◌, ◌++◌}

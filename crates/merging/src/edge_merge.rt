@@ -50,7 +50,7 @@ struct Gone {
 // One turn, from rows p and q on: the edges of the first network below the second's front, and then the other way round.
 fn lay_turn(form: Form, first: &[u8], p: usize, second: &[u8], q: usize, out: &mut [u8]) -> Gone
     requires two { Two form first.now second.now × (p ≤ edge_count first.now) × (q ≤ edge_count second.now) }
-    requires q_in_bounds { length (turn_bytes form first.now second.now p q) ≤ length out.old }
+    requires room { length (turn_bytes form first.now second.now p q) ≤ length out.old }
     ensures gone { (result.first ≡ gone_first form first.now second.now p q) × (result.second ≡ gone_second form first.now second.now p q) }
     ensures laid { out.new ≡ over (turn_bytes form first.now second.now p q) out.old }
 {
@@ -67,7 +67,7 @@ fn lay_turn(form: Form, first: &[u8], p: usize, second: &[u8], q: usize, out: &m
 // The edges of both, of which there are so many and no two have one key.
 pub fn merge_edges(form: Form, first: &[u8], second: &[u8], edges: usize, out: &mut [u8])
     requires two { Two form first.now second.now × KeysApart form first.now second.now × (edges ≡ edge_count first.now + edge_count second.now) }
-    requires second_in_bounds { length (edges_merged form first.now second.now) ≤ length out.old }
+    requires room { length (edges_merged form first.now second.now) ≤ length out.old }
     ensures { out.new ≡ over (edges_merged form first.now second.now) out.old }
 {
     let mut p = 0;

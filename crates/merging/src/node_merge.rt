@@ -48,7 +48,7 @@ fn put_lower(
     out: &mut [u8],
 ) -> usize
     requires two { Two form first.now second.now × Left form first.now second.now p (node_count first.now) q (node_count second.now) }
-    requires i_value { (i ≡ front_id form first.now p) × (j ≡ front_id form second.now q) × (node_width form ≤ length out.old) }
+    requires fronts { (i ≡ front_id form first.now p) × (j ≡ front_id form second.now q) × (node_width form ≤ length out.old) }
     ensures size { result ≡ length (box_bytes form.route (lower_box form first.now second.now p q)) }
     ensures laid { out.new ≡ over (box_bytes form.route (lower_box form first.now second.now p q)) out.old }
 {
@@ -66,7 +66,7 @@ fn put_lower(
 // The nodes of both, of which there are so many. Answers how many bytes they are.
 pub fn merge_nodes(form: Form, first: &[u8], second: &[u8], nodes: usize, out: &mut [u8]) -> usize
     requires two { Two form first.now second.now × (nodes ≡ length (joined_in form first.now second.now).boxes) }
-    requires second_in_bounds { length (nodes_merged form first.now second.now) ≤ length out.old }
+    requires room { length (nodes_merged form first.now second.now) ≤ length out.old }
     ensures size { result ≡ length (nodes_merged form first.now second.now) }
     ensures laid { out.new ≡ over (nodes_merged form first.now second.now) out.old }
 {

@@ -1,6 +1,6 @@
 -- Document 000's definition IV.3 in its own names, read on the ids of a network. proofs/PaperCut.antt shows that `fragment` agrees with
 -- it point by point, but for the edges, which document 01 mends.
---     init, ass, guar, V-in, V-out, E, trans_at     the parts of an open network
+--     init, ass, guar, V_in, V_out, E, trans_at     the parts of an open network
 --     demanded                            the demand at a box, which document 01 adds
 --     W .. guar_k                         the parts of fragment k, as the paper has them
 --     AgreesWithPaper                     what is shown of the fragment
@@ -42,7 +42,7 @@ abbrev pub between : ℕ → ℕ → Wire → Bool
 between u v w = eqb w.from u && eqb w.to v
 
 module _ {R P D : Type 0} (N : Network R P D) where
-  -- init, ass and guar are partial; V-in is where ass is defined, V-out where guar is
+  -- init, ass and guar are partial; V_in is where ass is defined, V_out where guar is
   abbrev pub init : ℕ → Option R
   init u = initial_of (box N u)
 

@@ -1,5 +1,5 @@
 -- What `prepare` leaves, from its contract alone.
---     given_form, given-..     a form that is given is the records' own, and no refusal applies to them
+--     given_form, given_..     a form that is given is the records' own, and no refusal applies to them
 --     prepared_after           the records and the tables are prepared where a form is given
 --     prepare_once             there is one answer, and one pair of tables with it
 use mathlib.Core.Path.{◌≡◌, sym, ap, ◌∙◌}

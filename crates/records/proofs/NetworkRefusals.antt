@@ -1,7 +1,7 @@
 -- Each answer of a check of a network, from the tests that the code has made by then.
---     wires, marks-..                 numbers 9 and 10, and the marks before and after the edges are read
+--     wires, marks_..                 numbers 9 and 10, and the marks before and after the edges are read
 --     wires_table                     what they leave in the table from ids to rows
---     nodes, nodes-.., parts-..       numbers 6 to 8, and on
+--     nodes, nodes_.., parts_..       numbers 6 to 8, and on
 --     many, counts, few_nodes         numbers 3 to 5, and on
 --     network                         numbers 1 and 2, and on
 use Prim.Native.Nat.{ℕ, ◌+◌, ◌≤◌, ◌<◌}

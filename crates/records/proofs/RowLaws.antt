@@ -1,6 +1,6 @@
 -- Rows and the table from ids to rows.
---     ids_rise, row-..               the row of a node by its id, where ids rise
---     mark-..                        what the table tells of an id
+--     ids_rise, row_..               the row of a node by its id, where ids rise
+--     mark_..                        what the table tells of an id
 --     rows_fine                      the table after a check that found nothing
 --     rows_read                      the row of an id by the table, as the code reads it
 --     filled_once, rows_after_once   there is one filled table, and one table after a check

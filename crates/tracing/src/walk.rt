@@ -27,7 +27,7 @@ pub fn put_trail<'a>(
 ) -> usize
     requires prepared { Prepared form network.now list.now rows.now stands.now × Passing form network.now list.now }
     requires id_value { boxed form network.now id ≡ true }
-    requires longest_box_line_bound { at + (length (trail_from form network.now list.now id) + longest_box_line) < 2 ^ 64 }
+    requires offset_fits { at + (length (trail_from form network.now list.now id) + longest_box_line) < 2 ^ 64 }
     ensures { Written (trail_from form network.now list.now id) room.old at room.new result }
 {
     let route = box_route(form, network, list, rows, stands, id);

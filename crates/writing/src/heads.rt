@@ -44,8 +44,8 @@ pub fn put_head(version: u8, size: u32, nodes: u16, edges: u16, policies: u8, ou
 
 // The policies of a record, as they stand. Answers how many bytes that is.
 pub fn put_policies(network: &[u8], out: &mut [u8]) -> usize
-    requires head_width_in_bounds { (head_width ≤ length network.now) × (node_part network.now ≤ length network.now) }
-    requires network_in_bounds { length (policies_in network.now) ≤ length out.old }
+    requires head { (head_width ≤ length network.now) × (node_part network.now ≤ length network.now) }
+    requires room { length (policies_in network.now) ≤ length out.old }
     ensures size { result ≡ length (policies_in network.now) }
     ensures laid { out.new ≡ over (policies_in network.now) out.old }
 {

@@ -1,6 +1,6 @@
 -- The order that the laws of choice make of `best`, and the best of several.
---     at-least-..      a route is at least as good as itself, and so on from route to route
---     bestOf-..        the best of several is at least as good as each, and is one of them
+--     at_least_..      a route is at least as good as itself, and so on from route to route
+--     best_of_..        the best of several is at least as good as each, and is one of them
 use mathlib.Core.Path.{◌≡◌, refl, sym, ap, ◌∙◌}
 use mathlib.Core.Bool.{true}
 use mathlib.Core.List.{List, [], ◌∷◌}

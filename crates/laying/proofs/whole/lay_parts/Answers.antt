@@ -14,7 +14,7 @@ pub slice_bounds-put_policies-start : goal.slice_bounds-put_policies-start
 slice_bounds-put_policies-start c = search laid_parts
 
 pub put_policies-a-requires : goal.put_policies-a-requires
-put_policies-a-requires c = record { head_width_in_bounds = (search rules, search policies_room); network_in_bounds = search laid_parts }
+put_policies-a-requires c = record { head = (search rules, search policies_room); room = search laid_parts }
 
 pub overflow_add-a : goal.overflow_add-a
 overflow_add-a c = search laid_parts
@@ -26,7 +26,7 @@ pub slice_bounds-lay_nodes-start : goal.slice_bounds-lay_nodes-start
 slice_bounds-lay_nodes-start c = search laid_parts
 
 pub lay_nodes-requires : goal.lay_nodes-requires
-lay_nodes-requires c = record { node_tables = search rules; pieces_in_bounds = search laid_parts }
+lay_nodes-requires c = record { node_tables = search rules; room = search laid_parts }
 
 pub overflow_add-b : goal.overflow_add-b
 overflow_add-b c = search laid_parts
@@ -38,7 +38,7 @@ pub slice_bounds-lay_edges-start : goal.slice_bounds-lay_edges-start
 slice_bounds-lay_edges-start c = search laid_parts
 
 pub lay_edges-requires : goal.lay_edges-requires
-lay_edges-requires c = record { checked_network = (search rules, search rules); k_in_bounds = search laid_parts }
+lay_edges-requires c = record { checked_network = (search rules, search rules); room = search laid_parts }
 
 pub returns : goal.returns
 returns c = search laid_parts

@@ -21,7 +21,7 @@ put_run-requires c =
       search rules,
       run_within _ _ _ _ _ given.2 c.run_below-b.ensures,
       second_room _ _ _ _ _ given.1 given.2 _ _ c.run_below-a.ensures c.front_key.ensures.0 _ _ c.run_below-b.ensures
-          c.front_key-2.ensures.0 _ c.requires.q_in_bounds _ _ c.put_run-size.ensures.size c.put_run-size.ensures.laid,
+          c.front_key-2.ensures.0 _ c.requires.room _ _ c.put_run-size.ensures.size c.put_run-size.ensures.laid,
     )
 
 pub returns : goal.returns
@@ -33,5 +33,5 @@ returns c =
     let i = c.front_key-2.ensures.0 in
     record {
       gone = (first_gone _ _ _ _ _ given.1 given.2 _ _ a j, second_gone _ _ _ _ _ given.1 given.2 _ _ a j _ _ b i);
-      laid = turn_done _ _ _ _ _ given.1 given.2 _ _ a j _ _ b i _ c.requires.q_in_bounds _ _ c.put_run-size.ensures.size c.put_run-size.ensures.laid _ c.put_run.ensures.laid;
+      laid = turn_done _ _ _ _ _ given.1 given.2 _ _ a j _ _ b i _ c.requires.room _ _ c.put_run-size.ensures.size c.put_run-size.ensures.laid _ c.put_run.ensures.laid;
     }
