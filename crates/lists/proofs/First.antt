@@ -96,7 +96,7 @@ unfolding Passed
 passed_more ok i h e = below_more (λ k. ok k ≡ true) i h e
 
 -- the two exits of a loop that looks for the first bad place
-pub passed_end : (ok : ℕ → Bool) (n i : ℕ) → n ≤ i → i ≤ n → Passed ok i → i ≡ first_bad ok n
+pub passed_end : (ok : ℕ → Bool) (n i : ℕ) → n ≤ i → i ≤ n → Passed ok i → n ≡ first_bad ok n
 unfolding Passed
 passed_end ok n i l m h = let e : first_bad ok n ≡ n = first_none ok n (λ k p. h k (omega arith)) in omega arith
 

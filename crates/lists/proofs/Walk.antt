@@ -23,7 +23,7 @@ pub seek_start : (ok : ℕ → Bool) (n : ℕ) → Seek ok n 0
 seek_start ok n = record { within = zero-le; passed = passed_none ok }
 
 module _ (ok : ℕ → Bool) (n i : ℕ) (s : Seek ok n i) where
-  pub seek_end : n ≤ i → i ≡ first_bad ok n
+  pub seek_end : n ≤ i → n ≡ first_bad ok n
   seek_end l = passed_end ok n i l s.within s.passed
 
   module _ (l : i < n) (t : Bool) (e : t ≡ ok i) where
@@ -50,7 +50,7 @@ module _ (offset : ℕ → ℕ) (ok : ℕ → Bool) (n i o : ℕ) (w : Walk offs
   pub walk_bad : i < n → ok i ≡ false → i ≡ first_bad ok n
   walk_bad l t = passed_stop ok n i l w.passed t
 
-  pub walk_end : n ≤ i → i ≡ first_bad ok n
+  pub walk_end : n ≤ i → n ≡ first_bad ok n
   walk_end l = passed_end ok n i l w.within w.passed
 
 -- the test on the offset at hand is the test on the part at hand
@@ -77,7 +77,7 @@ pub record Climb (ids offset : ℕ → ℕ) (ok : ℕ → Bool) (n i o low : ℕ
 pub climb_start : (ids offset : ℕ → ℕ) (ok : ℕ → Bool) (n o : ℕ) → o ≡ offset 0 → Climb ids offset ok n 0 o 0
 climb_start ids offset ok n o e = record { walk = walk_start offset ok n o e; floor = least_start ids }
 
-pub climb_end : (ids offset : ℕ → ℕ) (ok : ℕ → Bool) (n i o low : ℕ) → Climb ids offset ok n i o low → n ≤ i → i ≡ first_bad ok n
+pub climb_end : (ids offset : ℕ → ℕ) (ok : ℕ → Bool) (n i o low : ℕ) → Climb ids offset ok n i o low → n ≤ i → n ≡ first_bad ok n
 climb_end ids offset ok n i o low c l = walk_end offset ok n i o c.walk l
 
 -- a part is good where its id is high enough and the test on its offset says so

@@ -135,7 +135,7 @@ module _ (f : Form) (b : List ℕ) (n : ℕ) where
   node_start o e = climb_start _ _ _ n o (e ∙ sym (node_first f b))
 
   module _ (i o low : ℕ) (c : Noding f b n i o low) where
-    pub node_end : n ≤ i → i ≡ first_bad (node_ok f b) n
+    pub node_end : n ≤ i → n ≡ first_bad (node_ok f b) n
     node_end l = climb_end _ _ _ n i o low c l
 
     module _ (l : i < n) where

@@ -22,7 +22,7 @@ module _ (b : List ℕ) (n : ℕ) where
   policy_start = walk_start _ _ n 10 (sym policy_first)
 
   module _ (i o : ℕ) (w : Policies b n i o) where
-    pub policy_end : n ≤ i → i ≡ first_bad (policy_ok b) n
+    pub policy_end : n ≤ i → n ≡ first_bad (policy_ok b) n
     policy_end l = walk_end _ _ n i o w l
 
     module _ (l : i < n) where

@@ -72,10 +72,9 @@ pub fn bad_node(form: Form, b: &[u8], n: usize) -> usize
     ensures { result ≡ first_bad (node_ok form b.now) n }
 {
     let size = node_width(form);
-    let mut i = 0;
     let mut o = node_part(b);
     let mut least: usize = 0;
-    while i < n {
+    for i in 0..n {
         let id = u16_at(b, o) as usize;
         if id < least {
             return i;
@@ -85,9 +84,8 @@ pub fn bad_node(form: Form, b: &[u8], n: usize) -> usize
         }
         least = id + 1;
         o += size;
-        i += 1;
     }
-    i
+    n
 }
 
 // The id of the i-th node.
@@ -159,12 +157,10 @@ pub fn no_own(form: Form, b: &[u8], n: usize) -> bool
     requires { Room form b.now × (n ≡ node_count b.now) }
     ensures { result ≡ ownless form b.now }
 {
-    let mut i: usize = 0;
-    while i < n {
+    for i in 0..n {
         if is_own(form, b, i) {
             return false;
         }
-        i += 1;
     }
     true
 }

@@ -11,14 +11,12 @@ pub fn bad_policy(b: &[u8], n: usize) -> usize
     requires { policy_offset n ≤ length b.now }
     ensures { result ≡ first_bad (policy_ok b.now) n }
 {
-    let mut i = 0;
     let mut o = 10;
-    while i < n {
+    for i in 0..n {
         if !policy_formed(b, o) {
             return i;
         }
         o += 13;
-        i += 1;
     }
-    i
+    n
 }

@@ -1,10 +1,6 @@
 -- Before the i-th turn no node before it is an own one (Ownless).
 use Rattle.nodes.proofs.RowReads.{Ownless}
-use Prim.Native.Nat.{◌-◌}
 use Rattle.nodes.proofs.nodes.no_own.Given as goal
 
 abbrev pub invariant-loop-i : goal.invariant-loop-i
 invariant-loop-i l = Ownless l.form l.b l.i
-
-abbrev pub decreases-loop-i : goal.decreases-loop-i
-decreases-loop-i l = l.n - l.i

@@ -1,10 +1,6 @@
 -- Before the i-th turn every policy before it is well formed (Policies).
 use Rattle.nodes.proofs.PolicyLaws.{Policies}
-use Prim.Native.Nat.{◌-◌}
 use Rattle.nodes.proofs.policies.bad_policy.Given as goal
 
 abbrev pub invariant-loop-i : goal.invariant-loop-i
 invariant-loop-i l = Policies l.b l.n l.i l.o
-
-abbrev pub decreases-loop-i : goal.decreases-loop-i
-decreases-loop-i l = l.n - l.i
