@@ -6,7 +6,7 @@ ghost use Rattle.layout.specs.Layout.{Room, node_count, node_offset};
 ghost use Rattle.nodes.specs.Node.{kind_formed, promise_formed, demand_formed, node_formed, promising, demand_of, node_id, node_ok, is_own, ownless};
 
 use layout::{Class, Form, Refusal, node_offset, node_part, node_width};
-use numbers::{all_zero, u16_at, wide16};
+use numbers::{all_zero, u16_at};
 use routes::{Demand, route_formed};
 
 // Whether the kind of the node at an offset is well formed: an input has no promise and demand 0.
@@ -103,7 +103,7 @@ pub fn refused_at(class: Class, form: Form, b: &[u8], i: usize) -> Refusal
 {
     Refusal {
         class,
-        place: wide16(node_id(form, b, i)),
+        place: usize::from(node_id(form, b, i)),
     }
 }
 
