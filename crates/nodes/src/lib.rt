@@ -5,6 +5,8 @@
 
 mod nodes;
 mod policies;
+mod record;
 
-pub use nodes::{bad_node, demand_at, is_own, no_own, node_id, own_at, promising_at, refused_at};
+pub use nodes::{bad_node, demand_at, own_at, promising_at};
 pub use policies::bad_policy;
+pub use record::NetworkRecord;

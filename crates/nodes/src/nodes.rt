@@ -2,10 +2,10 @@
 ghost use Rattle.std.specs.Prelude.{◌≡◌, ◌+◌, ◌≤◌, ◌<◌, eqb, length, get_or};
 ghost use Rattle.lists.specs.First.{first_bad};
 ghost use Rattle.layout.specs.Form.{Usable};
-ghost use Rattle.layout.specs.Layout.{Room, node_count, node_offset};
-ghost use Rattle.nodes.specs.Node.{kind_formed, promise_formed, demand_formed, node_formed, promising, demand_of, node_id, node_ok, is_own, ownless};
+ghost use Rattle.layout.specs.Layout.{node_offset};
+ghost use Rattle.nodes.specs.Node.{kind_formed, promise_formed, demand_formed, node_formed, promising, demand_of, node_ok};
 
-use layout::{Class, Form, Refusal, node_offset, node_part, node_width};
+use layout::{Form, node_part, node_width};
 use numbers::{all_zero, u16_at};
 use routes::{Demand, route_formed};
 
@@ -88,25 +88,6 @@ pub fn bad_node(form: Form, b: &[u8], n: usize) -> usize
     n
 }
 
-// The id of the i-th node.
-pub fn node_id(form: Form, b: &[u8], i: usize) -> u16
-    requires { Room form b.now × (i < node_count b.now) }
-    ensures { result ≡ node_id form b.now i }
-{
-    u16_at(b, node_offset(form, b, i))
-}
-
-// The refusal of a class that names the i-th node: its place is the node's id.
-pub fn refused_at(class: Class, form: Form, b: &[u8], i: usize) -> Refusal
-    requires { Room form b.now × (i < node_count b.now) }
-    ensures { result ≡ record { class = class; place = node_id form b.now i } }
-{
-    Refusal {
-        class,
-        place: usize::from(node_id(form, b, i)),
-    }
-}
-
 // Whether the node at an offset is an own one.
 pub fn own_at(b: &[u8], at: usize) -> bool
     requires { at + 2 < length b.now }
@@ -116,14 +97,6 @@ pub fn own_at(b: &[u8], at: usize) -> bool
         0 => true,
         _ => false,
     }
-}
-
-// Whether the i-th node is an own one.
-pub fn is_own(form: Form, b: &[u8], i: usize) -> bool
-    requires { Room form b.now × (i < node_count b.now) }
-    ensures { result ≡ is_own form b.now i }
-{
-    own_at(b, node_offset(form, b, i))
 }
 
 // Whether the node at an offset promises a route, or to hold none.
@@ -150,17 +123,4 @@ pub fn demand_at(width: usize, b: &[u8], at: usize) -> Demand
         },
         _ => Demand::HoldNone,
     }
-}
-
-// Whether no node is an own one.
-pub fn no_own(form: Form, b: &[u8], n: usize) -> bool
-    requires { Room form b.now × (n ≡ node_count b.now) }
-    ensures { result ≡ ownless form b.now }
-{
-    for row in 0..n {
-        if is_own(form, b, row) {
-            return false;
-        }
-    }
-    true
 }

@@ -1,5 +1,5 @@
 use Rattle.nodes.proofs.RowReads.{owns}
-use Rattle.nodes.proofs.nodes.no_own.Goals as goal
+use Rattle.nodes.proofs.record.NetworkRecord.no_own.Goals as goal
 
 pub loop-row-init : goal.loop-row-init
 loop-row-init c = search owns
