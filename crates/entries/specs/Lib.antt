@@ -1,2 +1,3 @@
 -- Sheets and route lists as bytes, and what is refused of them, by number and place.
 pub mod Entries
+pub mod Once

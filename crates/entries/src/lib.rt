@@ -7,4 +7,4 @@ mod checks;
 mod lookup;
 
 pub use checks::{check_list, check_sheet};
-pub use lookup::{entry_near, entry_of, row_behind};
+pub use lookup::{EntriesRecord, row_behind};

@@ -82,7 +82,7 @@ pub fn node_offset(form: Form, b: &[u8], i: usize) -> usize
 // The offset of the i-th edge; behind the last one the record ends.
 pub fn edge_offset(form: Form, b: &[u8], i: usize) -> usize
     requires { Usable form × (10 ≤ length b.now) × (i ≤ 65535) }
-    ensures { result ≡ edge_offset form b.now i }
+    ensures { (result ≡ edge_offset form b.now i) × (result ≤ 8391933) }
 {
     stride(
         node_offset(form, b, u16_at(b, NODES_FIELD) as usize),

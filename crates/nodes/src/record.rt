@@ -23,19 +23,19 @@ impl<'a> NetworkRecord<'a> {
 
     // How many nodes, edges and policies the record has.
     pub fn node_count(&self) -> usize
-        ensures { result ≡ node_count self.now.bytes.now }
+        ensures { (result ≡ node_count self.now.bytes.now) × (result ≤ 65535) }
     {
         usize::from(u16_at(self.bytes, NODES_FIELD))
     }
 
     pub fn edge_count(&self) -> usize
-        ensures { result ≡ edge_count self.now.bytes.now }
+        ensures { (result ≡ edge_count self.now.bytes.now) × (result ≤ 65535) }
     {
         usize::from(u16_at(self.bytes, EDGES_FIELD))
     }
 
     pub fn policy_count(&self) -> usize
-        ensures { result ≡ policy_count self.now.bytes.now }
+        ensures { (result ≡ policy_count self.now.bytes.now) × (result ≤ 255) }
     {
         usize::from(self.bytes[POLICIES_FIELD])
     }
@@ -51,7 +51,7 @@ impl<'a> NetworkRecord<'a> {
     // The offset of the j-th edge; behind the last one the record ends.
     pub fn edge_offset(&self, j: usize) -> usize
         requires { j ≤ 65535 }
-        ensures { result ≡ edge_offset self.now.form self.now.bytes.now j }
+        ensures { (result ≡ edge_offset self.now.form self.now.bytes.now j) × (result ≤ 8391933) }
     {
         edge_offset(self.form, self.bytes, j)
     }

@@ -33,9 +33,9 @@ module _ (f : Form) (lead : ℕ) (network entries table : List ℕ) (i : ℕ) (t
   unfolding with_entry
   entry_input_table y = rw (← w, not-true t y)
 
-  module _ (y : not t ≡ false) (id row : ℕ) (p : id ≡ node_id f network i) (q : row ≡ entry_of f lead entries id) (k count : ℕ) (c : count ≡ k) (d : k ≡ u16_at entries 5) where
+  module _ (y : not t ≡ false) (id row : ℕ) (p : id ≡ node_id f network i) (g : Form) (e : g ≡ f) (q : row ≡ entry_of g lead entries id) (count : ℕ) (d : count ≡ u16_at entries 5) where
     here : row ≡ entry_in f lead network entries i
-    here = q ∙ ap (entry_of f lead entries) p
+    here = (rw e at q) ∙ ap (entry_of f lead entries) p
 
     pub entry_missing : count ≤ row → false ≡ entered f lead network entries i
     unfolding entered

@@ -15,6 +15,7 @@ use mir.Val.{Fits}
 use borrow.Author.Tests.{le-leb, lt-leb, not-true, not-false}
 use Rattle.std.proofs.Common.{Option, Some, None}
 use Rattle.std.proofs.lemmas.Option.{none-some, same_Some}
+use Rattle.lists.specs.Stride.{at}
 use Rattle.lists.specs.First.{first_bad}
 use Rattle.lists.specs.Gather.{table_after}
 use Rattle.lists.proofs.Gather.{after_none, after_next}
@@ -132,19 +133,20 @@ module _ (f : Form) (b : List ℕ) (n : ℕ) (left₀ : List ℕ) where
   edging_start o e = record { walk = walk_start _ _ n o e; floor = least_start _; marks = after_none (marked_by f b any_edge) left₀ }
 
   module _ (j o low : ℕ) (left : List ℕ) (c : Edging f b n j o low left₀ left) where
-    pub edging_end : n ≤ j → n ≡ first_bad (edge_ok f b) n
-    edging_end l = walk_end _ _ n j o c.walk l
+    pub edging_end : n ≤ j → (m : ℕ) → n ≡ m → n ≡ first_bad (edge_ok f b) m
+    edging_end l m e = rw (← e) (walk_end _ _ n j o c.walk l)
 
     pub edging_marks : n ≤ j → left ≡ table_after (marked_by f b any_edge) n left₀
     edging_marks l = let w = c.walk.within in let all : j ≡ n = omega arith in rw all at c.marks
 
     module _ (l : j < n) where
-      pub edging_fits : Room f b → n ≡ edge_count b → length b < 2 ^ 64 → Fits w64 (o + 5)
-      edging_fits r q g = let here = c.walk.here in omega (arith, edge_room f b r j (omega arith))
+      pub edging_fits : (first : ℕ) → first ≡ edge_offset f b 0 → first ≤ 8391933 → n ≤ 65535 → Fits w64 (o + 5)
+      unfolding edge_offset at
+      edging_fits first e m k = let here = c.walk.here in omega arith
 
       module _ (read : Option ℕ) (k : read ≡ key_after f b j) where
-        pub edging_bad : read ≡ None → j ≡ first_bad (edge_ok f b) n
-        edging_bad e = walk_bad _ _ n j o c.walk l (key_none f b j (sym e ∙ k))
+        pub edging_bad : read ≡ None → (m : ℕ) → n ≡ m → j ≡ first_bad (edge_ok f b) m
+        edging_bad e m q = rw (← q) (walk_bad _ _ n j o c.walk l (key_none f b j (sym e ∙ k)))
 
         -- and nothing was marked
         pub edging_bad_marks : (left' : List ℕ) → read ≡ None → left' ≡ marked_by f b (edge_ok f b) j left → left' ≡ table_after (marked_by f b any_edge) j left₀
@@ -180,9 +182,9 @@ pub ruleset edging = (edging_start, edging_end, edging_marks, edging_bad, edging
 -- an input and the edges that leave it
 module _ (f : Form) (b : List ℕ) where
   module _ (i : ℕ) (t : Bool) (e : t ≡ is_own f b i) where
-    pub leaving_own : t ≡ true → true ≡ input_ok f b i
+    pub leaving_own : t ≡ true → t ≡ input_ok f b i
     unfolding input_ok
-    leaving_own y = rw (← e, y)
+    leaving_own y = let h : is_own f b i ≡ true = cc in rw h y
 
     pub leaving_input : (left : List ℕ) → t ≡ false → Marked f b any_edge (edge_count b) left → i < node_count b → eqb (get_or left i 0) 1 ≡ input_ok f b i
     unfolding input_ok left_by Marked
@@ -201,18 +203,18 @@ module _ (f : Form) (b : List ℕ) where
   left_start = passed_none _
 
   module _ (i n : ℕ) (h : Left i) where
-    pub left_end : n ≤ i → i ≤ n → n ≡ first_bad (input_ok f b) n
+    pub left_end : n ≤ i → i ≤ n → (m : ℕ) → n ≡ m → n ≡ first_bad (input_ok f b) m
     unfolding Left
-    left_end l m = passed_end _ n i l m h
+    left_end l m k q = rw (← q) (passed_end _ n i l m h)
 
     module _ (t : Bool) (e : t ≡ input_ok f b i) where
       pub left_next : not t ≡ false → Left (i + 1)
       unfolding Left
       left_next y = passed_more _ i h (sym e ∙ not-false t y)
 
-      pub left_not : i < n → not t ≡ true → i ≡ first_bad (input_ok f b) n
+      pub left_not : i < n → not t ≡ true → (m : ℕ) → n ≡ m → i ≡ first_bad (input_ok f b) m
       unfolding Left
-      left_not l y = passed_stop _ n i l h (sym e ∙ not-true t y)
+      left_not l y m q = rw (← q) (passed_stop _ n i l h (sym e ∙ not-true t y))
 
 pub ruleset leaving = (leaving_own, leaving_input)
 

@@ -4,3 +4,4 @@ pub mod Network
 pub mod Rows
 pub mod Checked
 pub mod Entered
+pub mod Once

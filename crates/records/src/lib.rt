@@ -7,10 +7,11 @@
 
 mod edges;
 mod entered;
+mod filling;
 mod network;
 mod rows;
 
-pub use edges::is_owned;
 pub use entered::place_entries;
+pub use filling::fill_rows;
 pub use network::{check_network, check_network_rows};
-pub use rows::{fill_rows, row_in};
+pub use rows::TabledNetwork;

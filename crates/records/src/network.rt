@@ -5,93 +5,96 @@
 ghost use Rattle.std.specs.Prelude.{◌≡◌, ◌≤◌, length, replicate};
 ghost use Rattle.lists.specs.Rising.{Rising};
 ghost use Rattle.layout.specs.Form.{Usable, form_of};
-ghost use Rattle.layout.specs.Layout.{Room, node_count, edge_count};
+ghost use Rattle.layout.specs.Layout.{node_count, edge_count};
 ghost use Rattle.records.specs.Network.{many_parts, network_from, network_refusal};
 ghost use Rattle.nodes.specs.Node.{node_id};
 ghost use Rattle.layout.specs.Refusals.{check_answer};
-ghost use Rattle.records.specs.Rows.{Tabled, Marked, any_edge, RowsAfter};
+ghost use Rattle.records.specs.Rows.{Marked, any_edge, RowsAfter};
 
-use crate::edges::{bad_edge, bad_input};
-use crate::rows::fill_rows;
+use crate::TabledNetwork;
+use crate::edges::bad_input;
+use crate::filling::fill_rows;
 use layout::{
     Class, EDGES_FIELD, Form, MOST_EDGES, MOST_POLICIES, NODES_FIELD, POLICIES_FIELD, ROWS,
     Refusal, edge_offset, form_of, node_offset, node_part, policy_offset, total_of,
 };
-use nodes::{bad_node, bad_policy, no_own};
+use nodes::{NetworkRecord, bad_node, bad_policy};
 use numbers::{u16_at, u32_at};
 
 // Number 10, by the marks of the rows that the edges leave.
-fn check_inputs(form: Form, b: &[u8], left: &[u8; ROWS]) -> Result<Form, Refusal>
-    requires { Room form b.now × Marked form b.now any_edge (edge_count b.now) left.now }
-    ensures { check_answer result ≡ network_from form b.now 10 }
+fn check_inputs(network: &NetworkRecord, left: &[u8; ROWS]) -> Result<Form, Refusal>
+    requires { Marked network.now.form network.now.bytes.now any_edge (edge_count network.now.bytes.now) left.now }
+    ensures { check_answer result ≡ network_from network.now.form network.now.bytes.now 10 }
 {
-    let nodes = u16_at(b, NODES_FIELD) as usize;
-    let input = bad_input(form, b, left, nodes);
-    if input < nodes {
+    let input = bad_input(network, left);
+    if input < network.node_count() {
         return Err(Refusal {
             class: Class::NoEdgeOut,
-            place: node_offset(form, b, input),
+            place: network.node_offset(input),
         });
     }
-    Ok(form)
+    Ok(network.form)
 }
 
 // Numbers 9 and 10.
-fn check_wires(form: Form, b: &[u8], rows: &[u16; 65536]) -> Result<Form, Refusal>
-    requires { Tabled form b.now rows.now × Rising (node_id form b.now) (node_count b.now) }
-    ensures { check_answer result ≡ network_from form b.now 9 }
+fn check_wires(table: &TabledNetwork) -> Result<Form, Refusal>
+    requires { Rising (node_id table.now.network.form table.now.network.bytes.now) (node_count table.now.network.bytes.now) }
+    ensures { check_answer result ≡ network_from table.now.network.form table.now.network.bytes.now 9 }
 {
     let mut left = [0u8; ROWS];
-    let edges = u16_at(b, EDGES_FIELD) as usize;
-    let bad = bad_edge(form, b, rows, &mut left, edges);
-    if bad < edges {
+    let network = table.network;
+    let bad = table.bad_edge(&mut left);
+    if bad < network.edge_count() {
         return Err(Refusal {
             class: Class::IllEdge,
-            place: edge_offset(form, b, bad),
+            place: network.edge_offset(bad),
         });
     }
-    check_inputs(form, b, &left)
+    check_inputs(&network, &left)
 }
 
 // Numbers 7 to 10.
-fn check_nodes(form: Form, b: &[u8], rows: &mut [u16; 65536]) -> Result<Form, Refusal>
-    requires { Room form b.now × (rows.old ≡ replicate 65536 0) }
-    ensures numbers { check_answer result ≡ network_from form b.now 7 }
-    ensures table { RowsAfter form b.now result rows.old rows.new }
+fn check_nodes(network: &NetworkRecord, rows: &mut [u16; 65536]) -> Result<Form, Refusal>
+    requires { rows.old ≡ replicate 65536 0 }
+    ensures numbers { check_answer result ≡ network_from network.now.form network.now.bytes.now 7 }
+    ensures table { RowsAfter network.now.form network.now.bytes.now result rows.old rows.new }
 {
-    let nodes = u16_at(b, NODES_FIELD) as usize;
-    let node = bad_node(form, b, nodes);
+    let nodes = network.node_count();
+    let node = bad_node(network.form, network.bytes, nodes);
     if node < nodes {
         return Err(Refusal {
             class: Class::IllNode,
-            place: node_offset(form, b, node),
+            place: network.node_offset(node),
         });
     }
-    if no_own(form, b, nodes) {
+    if network.no_own() {
         return Err(Refusal {
             class: Class::NoOwn,
-            place: node_part(b),
+            place: node_part(network.bytes),
         });
     }
-    fill_rows(form, b, rows);
-    check_wires(form, b, rows)
+    fill_rows(network, rows);
+    check_wires(&TabledNetwork {
+        network: *network,
+        rows,
+    })
 }
 
 // Numbers 6 to 10.
-fn check_parts(form: Form, b: &[u8], rows: &mut [u16; 65536]) -> Result<Form, Refusal>
-    requires { Room form b.now × (rows.old ≡ replicate 65536 0) }
-    ensures numbers { check_answer result ≡ network_from form b.now 6 }
-    ensures table { RowsAfter form b.now result rows.old rows.new }
+fn check_parts(network: &NetworkRecord, rows: &mut [u16; 65536]) -> Result<Form, Refusal>
+    requires { rows.old ≡ replicate 65536 0 }
+    ensures numbers { check_answer result ≡ network_from network.now.form network.now.bytes.now 6 }
+    ensures table { RowsAfter network.now.form network.now.bytes.now result rows.old rows.new }
 {
-    let policies = usize::from(b[POLICIES_FIELD]);
-    let policy = bad_policy(b, policies);
+    let policies = network.policy_count();
+    let policy = bad_policy(network.bytes, policies);
     if policy < policies {
         return Err(Refusal {
             class: Class::IllPolicy,
             place: policy_offset(policy),
         });
     }
-    check_nodes(form, b, rows)
+    check_nodes(network, rows)
 }
 
 // Whether a count is over its bound.
@@ -140,7 +143,7 @@ fn check_counts(form: Form, b: &[u8], rows: &mut [u16; 65536]) -> Result<Form, R
             place: total,
         });
     }
-    check_parts(form, b, rows)
+    check_parts(&NetworkRecord { form, bytes: b }, rows)
 }
 
 // Checks a network, and fills the table from ids to rows, which is lent with zeros, where none of 1 to 8 applies; else the

@@ -1,32 +1,44 @@
 // The table from ids to rows.
-ghost use Rattle.std.specs.Prelude.{◌≡◌, true, ◌<◌, replicate};
-ghost use Rattle.layout.specs.Layout.{Room, node_count};
-ghost use Rattle.records.specs.Edge.{boxed};
-ghost use Rattle.nodes.specs.Node.{row_of};
-ghost use Rattle.records.specs.Rows.{Filled};
+ghost use Rattle.records.specs.Rows.{Tabled};
+ghost use Rattle.records.specs.Once.{tabled_once};
 
-use layout::{Form, NODES_FIELD};
-use nodes::node_id;
-use numbers::u16_at;
+use nodes::NetworkRecord;
 
-// Fills a table of zeros: at an id one more than the row of the node with that id, or 0 where no node has it. Rows are entered from
-// the last to the first, so that of two nodes with one id the first stays.
-pub fn fill_rows(form: Form, b: &[u8], rows: &mut [u16; 65536])
-    requires { Room form b.now × (rows.old ≡ replicate 65536 0) }
-    ensures { Filled form b.now rows.new }
-{
-    let n = usize::from(u16_at(b, NODES_FIELD));
-    for i in (0..n).rev() {
-        let id = usize::from(node_id(form, b, i));
-        rows[id] = (i + 1) as u16;
-    }
+// A network with the table by which its nodes are found: at an id one more than the row of the node with that id, or 0 where no node
+// has it.
+#[derive(Clone, Copy)]
+pub struct TabledNetwork<'a, 't> {
+    pub network: NetworkRecord<'a>,
+    pub rows: &'t [u16; 65536],
+    pub ghost tabled: { Tabled network.form network.bytes.now rows.now } by { tabled_once _ _ _ },
 }
 
-// The row of the node with an id, by the table.
-pub fn row_in(form: Form, b: &[u8], rows: &[u16; 65536], id: u16) -> usize
-    requires { Room form b.now × Filled form b.now rows.now × (boxed form b.now id ≡ true) }
-    ensures is { result ≡ row_of form b.now id }
-    ensures within { (result < node_count b.now) × (result < 1024) }
-{
-    usize::from(rows[id as usize]) - 1
+impl<'a, 't> TabledNetwork<'a, 't> {
+    ghost use Rattle.std.specs.Prelude.{◌≡◌, true, not, ◌<◌};
+    ghost use Rattle.layout.specs.Layout.{node_count};
+    ghost use Rattle.nodes.specs.Node.{row_of};
+    ghost use Rattle.records.specs.Edge.{boxed, owned};
+
+    // Whether a node has the id.
+    pub fn is_boxed(&self, id: u16) -> bool
+        ensures { result ≡ boxed self.now.network.form self.now.network.bytes.now id }
+    {
+        self.rows[usize::from(id)] != 0
+    }
+
+    // The row of the node with an id.
+    pub fn row_in(&self, id: u16) -> usize
+        requires { boxed self.now.network.form self.now.network.bytes.now id ≡ true }
+        ensures is { result ≡ row_of self.now.network.form self.now.network.bytes.now id }
+        ensures within { (result < node_count self.now.network.bytes.now) × (result < 1024) }
+    {
+        usize::from(self.rows[usize::from(id)]) - 1
+    }
+
+    // Whether an own node has the id.
+    pub fn is_owned(&self, id: u16) -> bool
+        ensures { result ≡ owned self.now.network.form self.now.network.bytes.now id }
+    {
+        self.is_boxed(id) && self.network.is_own(self.row_in(id))
+    }
 }

@@ -6,10 +6,10 @@ pub loop-i-init : goal.loop-i-init
 loop-i-init c = search (rules, inputs)
 
 pub returns-then-not-input_left : goal.returns-then-not-input_left
-returns-then-not-input_left c = search inputs
+returns-then-not-input_left c = search (rules, inputs)
 
 pub loop-i-preserved : goal.loop-i-preserved
 loop-i-preserved c = search (rules, inputs)
 
 pub returns : goal.returns
-returns c = search inputs
+returns c = search (rules, inputs)

@@ -4,4 +4,4 @@ use Prim.Native.Nat.{◌≤◌}
 use Rattle.records.proofs.edges.bad_input.Given as goal
 
 abbrev pub invariant-loop-i : goal.invariant-loop-i
-invariant-loop-i l = (l.i ≤ l.n) × Left l.form l.b l.i
+invariant-loop-i l = (l.i ≤ l.n) × Left l.network.form l.network.bytes.now l.i

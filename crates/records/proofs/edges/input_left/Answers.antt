@@ -5,5 +5,5 @@ use Rattle.records.proofs.edges.input_left.Goals as goal
 pub returns-then-is_own : goal.returns-then-is_own
 returns-then-is_own c = search leaving
 
-pub returns : goal.returns
-returns c = search leaving
+pub returns-else-is_own : goal.returns-else-is_own
+returns-else-is_own c = search leaving

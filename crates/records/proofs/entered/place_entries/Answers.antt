@@ -2,12 +2,6 @@ use Rattle.records.proofs.EnteredLaws.{placing}
 use borrow.Author.Rules.{rules}
 use Rattle.records.proofs.entered.place_entries.Goals as goal
 
-pub u16_at-requires : goal.u16_at-requires
-u16_at-requires c = search (rules, placing)
-
-pub from-n-requires : goal.from-n-requires
-from-n-requires c = search (rules, placing)
-
 pub loop-i-init : goal.loop-i-init
 loop-i-init c = search (rules, placing)
 

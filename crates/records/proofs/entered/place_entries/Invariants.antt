@@ -3,4 +3,4 @@ use Rattle.records.proofs.EnteredLaws.{Placing}
 use Rattle.records.proofs.entered.place_entries.Given as goal
 
 abbrev pub invariant-loop-i : goal.invariant-loop-i
-invariant-loop-i l = Placing l.form l.lead l.network l.entries l.n l.i l.initial.found l.found
+invariant-loop-i l = Placing l.network.form l.entries.lead l.network.bytes.now l.entries.bytes.now l.n l.i l.initial.found l.found

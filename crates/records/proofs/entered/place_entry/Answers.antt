@@ -15,14 +15,8 @@ node_id-requires c = search (rules, placing_one)
 pub entry_near-row-requires : goal.entry_near-row-requires
 entry_near-row-requires c = search (rules, placing_one)
 
-pub u16_at-requires : goal.u16_at-requires
-u16_at-requires c = search (rules, placing_one)
-
-pub from-requires : goal.from-requires
-from-requires c = search (rules, placing_one)
-
-pub returns-then-from-row : goal.returns-then-from-row
-returns-then-from-row c = search (rules, placing_one)
+pub returns-then-entry_count-row : goal.returns-then-entry_count-row
+returns-then-entry_count-row c = search (rules, placing_one)
 
 pub overflow_cast-found : goal.overflow_cast-found
 overflow_cast-found c = search (rules, placing_one)

@@ -16,8 +16,8 @@ returns-then-n-total c = record { numbers = search counts; table = refl }
 pub returns-then-total-n : goal.returns-then-total-n
 returns-then-total-n c = record { numbers = search counts; table = refl }
 
-pub check_parts-requires : goal.check_parts-requires
-check_parts-requires c = (record { usable = search rules; long = search rules; few = search few_nodes; whole = search rules }, search rules)
+pub invariant_of-check_parts : goal.invariant_of-check_parts
+invariant_of-check_parts c = record { room = record { usable = search rules; long = search rules; few = search few_nodes; whole = search rules } }
 
 pub returns : goal.returns
 returns c = record { numbers = search counts_parts; table = search rules }

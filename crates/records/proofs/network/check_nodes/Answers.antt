@@ -14,7 +14,7 @@ pub returns-then-no_own : goal.returns-then-no_own
 returns-then-no_own c = record { numbers = search nodes; table = refl }
 
 pub check_wires-requires : goal.check_wires-requires
-check_wires-requires c = (search rules, search nodes_rise)
+check_wires-requires c = search (rules, nodes_rise)
 
 pub returns : goal.returns
 returns c = record { numbers = search nodes_wires; table = search wires_table }

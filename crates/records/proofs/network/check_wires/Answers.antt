@@ -7,11 +7,11 @@ use Rattle.records.proofs.network.check_wires.Goals as goal
 pub edge_offset-requires : goal.edge_offset-requires
 edge_offset-requires c = search (rules, wires)
 
-pub returns-then-bad-edges : goal.returns-then-bad-edges
-returns-then-bad-edges c = search (rules, wires)
+pub returns-then-bad-edge_count : goal.returns-then-bad-edge_count
+returns-then-bad-edge_count c = search (rules, wires)
 
 pub check_inputs-requires : goal.check_inputs-requires
-check_inputs-requires c = (search rules, search left_marked)
+check_inputs-requires c = search (rules, left_marked)
 
 pub returns : goal.returns
 returns c = search (rules, wires)

@@ -1,13 +1,13 @@
 -- The table has one more than the row (rows_read).
 use Rattle.records.proofs.RowLaws.{rows_read}
 use borrow.Author.Rules.{rules}
-use Rattle.records.proofs.rows.row_in.Goals as goal
+use Rattle.records.proofs.rows.TabledNetwork.row_in.Goals as goal
 
-pub offset_bounds-rows-id : goal.offset_bounds-rows-id
-offset_bounds-rows-id c = search (rules, rows_read)
+pub offset_bounds-self-from : goal.offset_bounds-self-from
+offset_bounds-self-from c = search (rules, rows_read)
 
-pub bounds-rows-id : goal.bounds-rows-id
-bounds-rows-id c = search (rules, rows_read)
+pub bounds-self-from : goal.bounds-self-from
+bounds-self-from c = search (rules, rows_read)
 
 pub from-requires : goal.from-requires
 from-requires c = search (rules, rows_read)

@@ -1,6 +1,6 @@
 use Rattle.records.proofs.FillLaws.{filling}
 use borrow.Author.Rules.{rules}
-use Rattle.records.proofs.rows.fill_rows.Goals as goal
+use Rattle.records.proofs.filling.fill_rows.Goals as goal
 
 pub loop-i-init : goal.loop-i-init
 loop-i-init c = search filling

@@ -1,7 +1,7 @@
 -- An edge out of order or ill formed leaves nothing and the marks; any other leaves its key and one and its mark.
 use Rattle.records.proofs.LeftLaws.{edge_read}
 use borrow.Author.Rules.{rules}
-use Rattle.records.proofs.edges.read_edge.Goals as goal
+use Rattle.records.proofs.rows.TabledNetwork.read_edge.Goals as goal
 
 pub u16_at-to-requires : goal.u16_at-to-requires
 u16_at-to-requires c = search (rules, edge_read)
