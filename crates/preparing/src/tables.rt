@@ -11,7 +11,7 @@ ghost use Rattle.preparing.specs.Prepared.{stand_at, placed_in, with_stands, sta
 use entries::check_list;
 use layout::{Check, Class, Form, LIST_LEAD, NODES_FIELD, ROWS, entry_offset, node_offset};
 use nodes::{is_own, refused_at};
-use numbers::{u16_at, wide16};
+use numbers::u16_at;
 use records::{check_network_rows, place_entries};
 
 // Where the route of the node in row i stands, whose entry, if it is an own box, is in a row of the list.
@@ -31,11 +31,9 @@ fn fill_stands(form: Form, network: &[u8], places: &[u16; ROWS], stands: &mut [u
     requires { CheckedNetwork form network.now }
     ensures { stands.new ≡ with_stands form network.now (placed_in places.now) stands.old }
 {
-    let n = wide16(u16_at(network, NODES_FIELD));
-    let mut i = 0;
-    while i < n {
-        stands[i] = stand_at(form, network, i, wide16(places[i]));
-        i += 1;
+    let n = usize::from(u16_at(network, NODES_FIELD));
+    for i in 0..n {
+        stands[i] = stand_at(form, network, i, usize::from(places[i]));
     }
 }
 
@@ -47,7 +45,7 @@ fn enter(form: Form, network: &[u8], list: &[u8], stands: &mut [usize; ROWS]) ->
 {
     let mut places = [0u16; ROWS];
     let row = place_entries(form, LIST_LEAD, network, list, &mut places);
-    if row < wide16(u16_at(network, NODES_FIELD)) {
+    if row < usize::from(u16_at(network, NODES_FIELD)) {
         return Check::Refused(refused_at(Class::NoEntry, form, network, row));
     }
     fill_stands(form, network, &places, stands);
