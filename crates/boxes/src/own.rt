@@ -58,7 +58,7 @@ fn fault_of(form: Form, network: &[u8], row: usize, held: Route, due: Route) -> 
 }
 
 // The first fault of the own box in a row, which is due a route: it holds the one that the list has for it.
-pub fn fault_at(proposal: &Proposal<'_>, row: usize, due: Route) -> Option<Fault>
+pub fn fault_at(proposal: &Proposal<'_, '_>, row: usize, due: Route) -> Option<Fault>
     requires { (row < node_count proposal.now.network.now) × (is_own proposal.now.form proposal.now.network.now row ≡ true) }
     ensures { finding_of result ≡ fault_at proposal.now.form proposal.now.network.now proposal.now.list.now row due }
 {

@@ -74,7 +74,7 @@ pub fn wire_into(form: Form, network: &[u8], id: u16) -> NextWire
 }
 
 // What the wire at an offset gives the box that it leads to.
-pub fn offer(lookup: &Lookup<'_>, at: usize) -> Route
+pub fn offer(lookup: &Lookup<'_, '_>, at: usize) -> Route
     requires { WireAt lookup.now.proposal.form lookup.now.proposal.network.now at }
     ensures { result ≡ offer_at lookup.now.proposal.form lookup.now.proposal.network.now lookup.now.proposal.list.now at }
 {
@@ -84,7 +84,7 @@ pub fn offer(lookup: &Lookup<'_>, at: usize) -> Route
 }
 
 // The better of a route and what a wire gives.
-pub fn over_wire(lookup: &Lookup<'_>, wire: NextWire, due: Route) -> Route
+pub fn over_wire(lookup: &Lookup<'_, '_>, wire: NextWire, due: Route) -> Route
     requires { WireAt lookup.now.proposal.form lookup.now.proposal.network.now wire.at }
     ensures { result ≡ best beats due (offer_at lookup.now.proposal.form lookup.now.proposal.network.now lookup.now.proposal.list.now wire.at) }
 {

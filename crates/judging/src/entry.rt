@@ -7,7 +7,7 @@ ghost use Rattle.judging.specs.Neighbour.{neighbour_bytes};
 use crate::Verdict;
 use crate::first_fault::search;
 use layout::{Check, ROWS};
-use preparing::{named_part, prepare};
+use preparing::{Lookup, prepare};
 
 // Judges a list record against a network record: the network's refusals, the list's, an own box without an entry, and then
 // the first fault or a pass.
@@ -18,7 +18,7 @@ pub fn judge<'a>(network: &'a [u8], list: &'a [u8]) -> Verdict
     let mut stands = [0usize; ROWS];
     match prepare(network, list, &mut rows, &mut stands) {
         Check::Refused(r) => Verdict::Refused(r),
-        Check::Fine(form) => search(form, network, list, &rows, &stands),
+        Check::Fine(form) => search(&Lookup::new(form, network, list, &rows, &stands)),
     }
 }
 
@@ -31,6 +31,6 @@ pub fn neighbour<'a>(network: &'a [u8], list: &'a [u8], id: u16) -> &'a [u8]
     let mut stands = [0usize; ROWS];
     match prepare(network, list, &mut rows, &mut stands) {
         Check::Refused(_) => &network[0..0],
-        Check::Fine(form) => named_part(form, network, list, &rows, &stands, id),
+        Check::Fine(form) => Lookup::new(form, network, list, &rows, &stands).named_part(id),
     }
 }

@@ -8,23 +8,23 @@ use routes::{Route, route_at};
 
 // A proposal with the network that it is for, and where the route of each row stands: what `prepare` leaves.
 #[derive(Clone, Copy)]
-pub struct Proposal<'a> {
+pub struct Proposal<'a, 't> {
     pub form: Form,
     pub network: &'a [u8],
     pub list: &'a [u8],
-    pub stands: &'a [usize; ROWS],
+    pub stands: &'t [usize; ROWS],
     pub ghost standing: { Standing form network.now list.now stands.now } by { standing_once _ _ _ _ },
 }
 
 // The same with the row of each id, by which a neighbour's route is looked up.
 #[derive(Clone, Copy)]
-pub struct Lookup<'a> {
-    pub proposal: Proposal<'a>,
-    pub rows: &'a [u16; 65536],
+pub struct Lookup<'a, 't> {
+    pub proposal: Proposal<'a, 't>,
+    pub rows: &'t [u16; 65536],
     pub ghost prepared: { Prepared proposal.form proposal.network.now proposal.list.now rows.now proposal.stands.now } by { prepared_once _ _ _ _ _ },
 }
 
-impl<'a> Proposal<'a> {
+impl<'a, 't> Proposal<'a, 't> {
     ghost use Rattle.std.specs.Prelude.{◌≡◌, ◌<◌};
     ghost use Rattle.layout.specs.Layout.{node_count};
     ghost use Rattle.preparing.specs.Parts.{row_part};
@@ -45,7 +45,7 @@ impl<'a> Proposal<'a> {
     }
 }
 
-impl<'a> Lookup<'a> {
+impl<'a, 't> Lookup<'a, 't> {
     ghost use Rattle.std.specs.Prelude.{◌≡◌, true};
     ghost use Rattle.records.specs.Edge.{boxed};
     ghost use Rattle.routes.specs.Carry.{highest};
@@ -54,6 +54,30 @@ impl<'a> Lookup<'a> {
     ghost use Rattle.reading.specs.Whole.{read_network, read_list};
     ghost use Rattle.nodes.specs.Node.{row_of};
     ghost use Rattle.preparing.specs.Parts.{row_part, named_part};
+
+    // The lookup in two records that are not refused, by the tables that `prepare` fills.
+    pub fn new(
+        form: Form,
+        network: &'a [u8],
+        list: &'a [u8],
+        rows: &'t [u16; 65536],
+        stands: &'t [usize; ROWS],
+    ) -> Self
+        requires { Prepared form network.now list.now rows.now stands.now }
+        ensures form { result.proposal.form ≡ form }
+        ensures network { result.proposal.network.now ≡ network.now }
+        ensures list { result.proposal.list.now ≡ list.now }
+        ensures rows { result.rows.now ≡ rows.now }
+        ensures stands { result.proposal.stands.now ≡ stands.now }
+    {
+        let proposal = Proposal {
+            form,
+            network,
+            list,
+            stands,
+        };
+        Lookup { proposal, rows }
+    }
 
     // The route bytes of the box with an id.
     pub fn box_part(&self, id: u16) -> &'a [u8]

@@ -13,8 +13,8 @@ enum_known-r c = search (rules, judging)
 pub enum_known-form : goal.enum_known-form
 enum_known-form c = search (rules, judging)
 
-pub search-requires : goal.search-requires
-search-requires c =
+pub new-requires : goal.new-requires
+new-requires c =
     search (
       rules,
       prepared_after _ _ c.prepare.result c.prepare.ensures.numbers (λ i. (c.type_inv.network i).fits) (λ i. (c.type_inv.list i).fits),
