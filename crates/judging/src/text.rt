@@ -7,7 +7,7 @@ ghost use Rattle.judging.specs.Text.{verdict_line, judge_bound, naming_bound, ju
 
 use crate::entry::judge;
 use crate::{Finding, Verdict};
-use layout::{LARGEST_LIST, LARGEST_NETWORK, number_of};
+use layout::{LARGEST_LIST, LARGEST_NETWORK};
 use lines::{Line, first_length, place_line};
 
 // The longest input: the largest network and the largest route list.
@@ -48,7 +48,7 @@ pub fn verdict_line(verdict: Verdict) -> Line
         Verdict::DemandUnmet(finding) => finding_line(33, finding),
         Verdict::Refused(refusal) => {
             let class = refusal.class;
-            Line::Refused(usize::from(number_of(class)), refusal.place)
+            Line::Refused(usize::from(u8::from(class)), refusal.place)
         },
     }
 }

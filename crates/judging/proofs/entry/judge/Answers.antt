@@ -20,8 +20,8 @@ new-requires c =
       prepared_after _ _ c.prepare.result c.prepare.ensures.numbers (λ i. (c.type_inv.network i).fits) (λ i. (c.type_inv.list i).fits),
     )
 
-pub returns-in-Refused : goal.returns-in-Refused
-returns-in-Refused c = search (rules, judging)
+pub returns-in-Err : goal.returns-in-Err
+returns-in-Err c = search (rules, judging)
 
-pub returns-in-Fine : goal.returns-in-Fine
-returns-in-Fine c = search (rules, judging)
+pub returns-in-Ok : goal.returns-in-Ok
+returns-in-Ok c = search (rules, judging)

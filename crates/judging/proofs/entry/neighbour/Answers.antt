@@ -29,10 +29,10 @@ new-requires c =
       prepared_after _ _ c.prepare.result c.prepare.ensures.numbers (λ i. (c.type_inv.network i).fits) (λ i. (c.type_inv.list i).fits),
     )
 
-pub returns-in-Refused : goal.returns-in-Refused
-returns-in-Refused c = search (rules, asking)
+pub returns-in-Err : goal.returns-in-Err
+returns-in-Err c = search (rules, asking)
 
-pub returns-in-Fine : goal.returns-in-Fine
-returns-in-Fine c =
+pub returns-in-Ok : goal.returns-in-Ok
+returns-in-Ok c =
     let named = rw (c.new.ensures.form, c.new.ensures.network, c.new.ensures.list) at c.named_part.ensures in
-    asked_named _ _ _ c.prepare.ensures.numbers _ c.in-Fine.is _ _ named
+    asked_named _ _ _ c.prepare.ensures.numbers _ c.in-Ok.is _ _ named
