@@ -3,7 +3,7 @@
 --     wires_start, wire_other, wire_mine, wires_skipped     one wire, and the wires to lower boxes, passed over
 --     edges_rise, to_climbs, wires_past     wires by their to end
 --     NextAt, next_..              the next wire, as the code holds it, is the j-th
-use Rattle.std.proofs.Common.{Option, Some, None}
+use Rattle.std.proofs.Common.{Some, None}
 use mathlib.Core.Path.{◌≡◌, sym, ap, ap₂, ◌∙◌}
 use mathlib.Core.List.{List, [], ◌∷◌}
 use mathlib.Core.Logic.{⊎_elim}

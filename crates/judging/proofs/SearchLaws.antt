@@ -29,7 +29,7 @@ use Rattle.lists.specs.Answer.{given}
 use Rattle.reading.specs.House.{house}
 use Rattle.networks.specs.Judge.{Finding, pass, found, held}
 use Rattle.records.specs.Edge.{boxed, owned, edge_to}
-use Rattle.layout.specs.Layout.{Room, node_count, edge_count, node_offset, edge_part}
+use Rattle.layout.specs.Layout.{node_count, edge_count, node_offset, edge_part}
 use Rattle.nodes.specs.Node.{node_id, node_ok, node_formed, row_of, is_own}
 use Rattle.layout.proofs.Places.{edge_first}
 use Rattle.records.proofs.RowLaws.{row_within, row_found}

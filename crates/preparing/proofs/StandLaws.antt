@@ -18,7 +18,7 @@ use Rattle.numbers.proofs.StrideLaws.{stride_low}
 use Rattle.layout.specs.Layout.{entry_offset, Room, node_count, edge_count, policy_count, policy_offset, node_offset, edge_offset}
 use Rattle.layout.specs.Form.{Usable, entry_width, node_width, list_lead}
 use Rattle.nodes.specs.Node.{is_own}
-use Rattle.std.proofs.Common.{Result, Ok}
+use Rattle.std.proofs.Common.{Ok}
 use Rattle.layout.specs.declared.Form.{Form}
 use Rattle.records.specs.Checked.{CheckedNetwork}
 use Rattle.records.specs.Entered.{entry_in, EntryRows}

@@ -1,4 +1,4 @@
-use Rattle.tracing.proofs.WalkLaws.{walking, walk_next_room}
+use Rattle.tracing.proofs.WalkLaws.{walking}
 use borrow.Author.Rules.{rules}
 use Rattle.tracing.proofs.walk.+put_trail.Goals as goal
 
