@@ -30,7 +30,8 @@ use Rattle.marking.specs.Pieces.{piece_in, keeps, Pieces}
 use Rattle.marking.specs.declared.Kept.{Kept}
 use Rattle.writing.specs.Heads.{size_of}
 use Rattle.laying.specs.Pieces.{node_bytes, edge_bytes, fragment_in, NotesOfOwn, box_kept, wire_kept, FragmentParts}
-use Rattle.marking.specs.Tables.{box_in, RowTables}
+use Rattle.records.specs.Checked.{CheckedNetwork}
+use Rattle.marking.specs.Tables.{box_in, Numbered}
 use Rattle.marking.proofs.MarkSaid.{reaches_is}
 use Rattle.writing.proofs.Parts.{record_kept}
 use Rattle.writing.proofs.Selected.{Selected, selected_parts}
@@ -44,7 +45,7 @@ pub notes_of_own : (f : Form) (network sheet entries : List ℕ) (k : ℕ) (piec
 unfolding NotesOfOwn
 notes_of_own f network sheet entries k pieces p i l = (p.row i l).ours
 
-module _ (f : Form) (network sheet entries fragments : List ℕ) (k : ℕ) (pieces : List Kept) (t : RowTables f network sheet entries fragments)
+module _ (f : Form) (network sheet entries fragments : List ℕ) (k : ℕ) (pieces : List Kept) (c : CheckedNetwork f network) (m : Numbered f network sheet fragments)
     (parted : Pieces f network sheet entries k pieces) where
   abbrev F : HouseNetwork
   F = fragment_in f network sheet k
@@ -63,7 +64,7 @@ module _ (f : Form) (network sheet entries fragments : List ℕ) (k : ℕ) (piec
   -- an edge by its place, and the wire that it says
   reach : (j : ℕ) → j < edge_count network → only k (number (read_sheet f sheet) (wire_at network (edge_offset f network j)).to) ≡ reaches f network fragments k j
   unfolding wire_at edge_to
-  reach j l = sym (reaches_is f network sheet fragments t.checked t.numbered k j l)
+  reach j l = sym (reaches_is f network sheet fragments c m k j l)
 
   wires_are : F.wires ≡ gathered (wire_kept f network fragments k) (edge_count network)
   unfolding fragment_in fragment_of read_network edge_offset
@@ -88,19 +89,18 @@ module _ (f : Form) (network sheet entries fragments : List ℕ) (k : ℕ) (piec
   module _ (nodes edges : ℕ) (p : nodes ≡ count (keeps f network sheet k) (node_count network)) (q : edges ≡ count (reaches f network fragments k) (edge_count network)) where
     pub nodes_fit : Fits w16 nodes
     nodes_fit =
-        let few = t.checked.room.few in
-        let most = t.checked.room.usable.few in
+        let few = c.room.few in
+        let most = c.room.usable.few in
         omega (arith, count_le (keeps f network sheet k) (node_count network))
 
     pub edges_fit : Fits w16 edges
-    edges_fit = let few = t.checked.sound.few_edges in omega (arith, count_le (reaches f network fragments k) (edge_count network))
+    edges_fit = let few = c.sound.few_edges in omega (arith, count_le (reaches f network fragments k) (edge_count network))
 
     module _ (size : ℕ) (s : size ≡ size_of f (policy_count network) nodes edges) where
       pub fragment_parts_lem : FragmentParts f network sheet entries fragments pieces k size nodes edges
       unfolding node_bytes edge_bytes
       fragment_parts_lem =
-          let checked = t.checked in
-          selected_parts f network checked.room.usable checked.bytes checked.sound F (box_kept f network sheet entries pieces) (node_count network)
+          selected_parts f network c.room.usable c.bytes c.sound F (box_kept f network sheet entries pieces) (node_count network)
           (wire_kept f network fragments k) (edge_count network) selected size nodes edges (p ∙ sym boxes_count) (q ∙ sym wires_count) s
 
       pub fragment_long : size ≡ length (write_network f F)

@@ -31,7 +31,7 @@ use Rattle.marking.specs.declared.pieces.Kept.{Kept}
 use Rattle.marking.specs.declared.pieces.Kept.TheVariants.{Nothing, Stays, Promised, Assumed}
 use Rattle.marking.specs.Pieces.{note_in, piece_in, keeps, kept_in, with_piece, piece_of, Piece, Pieces, some_kept}
 use Rattle.records.specs.Entered.{EntryRows}
-use Rattle.marking.specs.Tables.{row_fragment, Numbered, RowTables}
+use Rattle.marking.specs.Tables.{row_fragment, Numbered}
 use Rattle.records.specs.Checked.{CheckedNetwork}
 use Rattle.reading.specs.Rows.{own_in}
 use Rattle.marking.proofs.Said.{own_box, input_box}
@@ -205,13 +205,13 @@ module _ (f : Form) (network sheet : List ℕ) (k n : ℕ) (pieces₀ : List Kep
 pub ruleset classifications = (classifying_start, classifying_count, classifying_table, classifying_index, classifying_kept, classifying_next)
 
 -- what the table of all rows holds
-pub pieces_made : (f : Form) (network sheet found fragments : List ℕ) (k n : ℕ) (pieces : List Kept) → RowTables f network sheet found fragments → n ≡ node_count network
+pub pieces_made : (f : Form) (network sheet found : List ℕ) (k n : ℕ) (pieces : List Kept) → CheckedNetwork f network → EntryRows f sheet_lead network sheet found → n ≡ node_count network
     → pieces ≡ table_after (with_piece f network sheet k) n (replicate 1024 Nothing) → Pieces f network sheet found k pieces
 unfolding with_piece
-pieces_made f network sheet found fragments k n pieces t e d =
-    let few = t.checked.room.few in
-    let most = t.checked.room.usable.few in
+pieces_made f network sheet found k n pieces c h e d =
+    let few = c.room.few in
+    let most = c.room.usable.few in
     record {
       row = λ i l. rw (d, after_stored (kept_in f network sheet k) Nothing (replicate 1024 Nothing) n (omega (arith, length-replicate {A = Kept} 1024 Nothing)) i (omega arith))
-          (piece_is f network sheet i l k found t.noted);
+          (piece_is f network sheet i l k found h);
     }
