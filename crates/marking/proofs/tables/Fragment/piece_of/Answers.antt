@@ -1,7 +1,7 @@
 -- One law for each way out: the tables give the tests that the code of the row is defined by.
 use Rattle.marking.proofs.PieceLaws.{classifying}
 use borrow.Author.Rules.{rules}
-use Rattle.marking.proofs.pieces.piece_of.Goals as goal
+use Rattle.marking.proofs.tables.Fragment.piece_of.Goals as goal
 
 pub is_own-requires : goal.is_own-requires
 is_own-requires c = search (rules, classifying)
@@ -12,17 +12,8 @@ bounds-feeds-i c = search (rules, classifying)
 pub returns-then-not-is_own : goal.returns-then-not-is_own
 returns-then-not-is_own c = search (rules, classifying)
 
-pub bounds-fragments-i : goal.bounds-fragments-i
-bounds-fragments-i c = search (rules, classifying)
-
-pub bounds-feeds-i-then-fragments-i : goal.bounds-feeds-i-then-fragments-i
-bounds-feeds-i-then-fragments-i c = search (rules, classifying)
-
-pub returns-in-0 : goal.returns-in-0
-returns-in-0 c = search (rules, classifying)
-
-pub returns-in_default : goal.returns-in_default
-returns-in_default c = search (rules, classifying)
+pub bounds-self-i : goal.bounds-self-i
+bounds-self-i c = search (rules, classifying)
 
 pub bounds-leaves-i : goal.bounds-leaves-i
 bounds-leaves-i c = search (rules, classifying)
@@ -41,3 +32,6 @@ returns-then-promising_at c = search (rules, classifying)
 
 pub returns : goal.returns
 returns c = search (rules, classifying)
+
+pub returns-then-self-i : goal.returns-then-self-i
+returns-then-self-i c = search (rules, classifying)

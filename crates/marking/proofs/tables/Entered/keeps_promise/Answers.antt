@@ -1,7 +1,7 @@
 -- One law for each way: an input, no cut wire, no promise, and the two routes compared.
 use Rattle.marking.proofs.ClashLaws.{clashing}
 use borrow.Author.Rules.{rules}
-use Rattle.marking.proofs.notes.keeps_promise.Goals as goal
+use Rattle.marking.proofs.tables.Entered.keeps_promise.Goals as goal
 
 pub is_own-requires : goal.is_own-requires
 is_own-requires c = search (rules, clashing)

@@ -1,16 +1,13 @@
 -- The note stands behind id and number of the entry that the table has for the row.
 use Rattle.marking.proofs.RowLaws.{noting}
 use borrow.Author.Rules.{rules}
-use Rattle.marking.proofs.notes.note_offset.Goals as goal
+use Rattle.marking.proofs.tables.Entered.note_offset.Goals as goal
 
-pub offset_bounds-found-i : goal.offset_bounds-found-i
-offset_bounds-found-i c = search (rules, noting)
+pub offset_bounds-self-i : goal.offset_bounds-self-i
+offset_bounds-self-i c = search (rules, noting)
 
-pub bounds-found-i : goal.bounds-found-i
-bounds-found-i c = search (rules, noting)
-
-pub wide16-entry-requires : goal.wide16-entry-requires
-wide16-entry-requires c = search (rules, noting)
+pub bounds-self-i : goal.bounds-self-i
+bounds-self-i c = search (rules, noting)
 
 pub entry_offset-requires : goal.entry_offset-requires
 entry_offset-requires c = search (rules, noting)

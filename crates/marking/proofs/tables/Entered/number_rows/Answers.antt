@@ -1,6 +1,6 @@
 use Rattle.marking.proofs.FragmentLaws.{numbering}
 use borrow.Author.Rules.{rules}
-use Rattle.marking.proofs.fragments.number_rows.Goals as goal
+use Rattle.marking.proofs.tables.Entered.number_rows.Goals as goal
 
 pub loop-i-init : goal.loop-i-init
 loop-i-init c = search (rules, numbering)
@@ -10,12 +10,6 @@ fragment_of-requires c = search (rules, numbering)
 
 pub bounds-fragments-i : goal.bounds-fragments-i
 bounds-fragments-i c = search (rules, numbering)
-
-pub overflow_add-i : goal.overflow_add-i
-overflow_add-i c = search (rules, numbering)
-
-pub loop-i-smaller : goal.loop-i-smaller
-loop-i-smaller c = search (rules, numbering)
 
 pub loop-i-preserved : goal.loop-i-preserved
 loop-i-preserved c = search (rules, numbering)

@@ -1,6 +1,6 @@
 use Rattle.marking.proofs.MarkLaws.{markings}
 use borrow.Author.Rules.{rules}
-use Rattle.marking.proofs.marks.mark_wires.Goals as goal
+use Rattle.marking.proofs.tables.Wires.mark_wires.Goals as goal
 
 pub edge_offset-at-requires : goal.edge_offset-at-requires
 edge_offset-at-requires c = search (rules, markings)
@@ -11,20 +11,11 @@ loop-j-init c = search (rules, markings)
 pub mark_wire-requires : goal.mark_wire-requires
 mark_wire-requires c = search (rules, markings)
 
-pub one_if-one-requires : goal.one_if-one-requires
-one_if-one-requires c = search (rules, markings)
-
 pub overflow_add-kept : goal.overflow_add-kept
 overflow_add-kept c = search (rules, markings)
 
 pub overflow_add-at : goal.overflow_add-at
 overflow_add-at c = search (rules, markings)
-
-pub overflow_add-j : goal.overflow_add-j
-overflow_add-j c = search (rules, markings)
-
-pub loop-j-smaller : goal.loop-j-smaller
-loop-j-smaller c = search (rules, markings)
 
 pub loop-j-preserved : goal.loop-j-preserved
 loop-j-preserved c = search (rules, markings)
