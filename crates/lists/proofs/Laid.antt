@@ -3,14 +3,13 @@
 --     Laid, laid_..                       what a writer knows between two parts: one part more, a part by a writer that is lent the rest, the end
 --     lent_back                           the whole, once a rest that was lent has come back
 --     sets_append, stored_..              runs at an offset, one behind another
---     copy_over, copy_stored              a copy over the start, and one into a rest that is lent
 use mathlib.Core.Path.{◌≡◌, refl, ◌∙◌, sym, ap}
 use mathlib.Core.List.{List, [], ◌++◌, append_assoc, append-nil, ◌∷◌}
 use Prim.Native.Nat.{ℕ, suc, ◌+◌, ◌-◌, ◌≤◌, ◌<◌}
 use native.Mathlib.Omega.{arith}
 use native.Mathlib.Nat.{zero-add, add-zero, add-suc, suc-add}
 use borrow.Author.Tests.{le-leb, lt-leb}
-use lib.ListN.{length, take, drop, set, length-append, length-take, length-drop, drop_of_length-le, replicate, length-replicate, replicate-append-replicate}
+use lib.ListN.{length, take, drop, set, length-append, length-take, length-drop, drop_of_length-le}
 use lib.Seq.{take_all, take-append_seam, drop-drop, drop-append-add, sets, sets-eq}
 use Rattle.lists.specs.Laid.{over, placed}
 
@@ -116,27 +115,7 @@ pub stored_on : (out half out' : List ℕ) (at next : ℕ) (xs ys : List ℕ) �
     → out' ≡ sets out at (xs ++ ys)
 stored_on out half out' at next xs ys p n q = q ∙ rw (p, n) (sym (sets_append out at xs ys))
 
--- one byte more of a run of equal bytes
-pub stored_again : (out half : List ℕ) (at i v : ℕ) → half ≡ sets out at (replicate i v) → set half (at + i) v ≡ sets out at (replicate (i + 1) v)
-stored_again out half at i v p =
-    ap (λ (l : List ℕ). set l (at + i) v) p
-    ∙ ap (λ (k : ℕ). set (sets out at (replicate i v)) (at + k) v) (sym (length-replicate i v))
-    ∙ sym (sets_append out at (replicate i v) (v ∷ []))
-    ∙ ap (sets out at) (replicate-append-replicate i 1 v)
-
 -- a run at the start
 pub stored_over : (out out' w : List ℕ) → length w ≤ length out → out' ≡ sets out 0 w → out' ≡ over w out
 unfolding over
 stored_over out out' w h e = e ∙ sets-eq w out 0 (omega arith) ∙ ap (λ (k : ℕ). w ++ drop k out) (zero-add (length w))
-
--- what a copy of all of s leaves of a buffer
-pub copy_over : (out out' s : List ℕ) (n : ℕ) → n ≡ length s → out' ≡ take n s ++ drop n out → out' ≡ over s out
-unfolding over
-copy_over out out' s n e f = f ∙ rw (e, take_all (length s) s (omega arith))
-
-pub copy_stored : (out back s : List ℕ) (at n : ℕ) → n ≡ length s → at + length s ≤ length out → back ≡ take n s ++ drop n (take (length out - at) (drop at out))
-    → take at out ++ (back ++ drop (length out - at) (drop at out)) ≡ sets out at s
-copy_stored out back s at n e h f =
-    ap (λ (l : List ℕ). take at out ++ (l ++ drop (length out - at) (drop at out))) (copy_over (take (length out - at) (drop at out)) back s n e f)
-    ∙ lent_back out s at h
-    ∙ sym (sets-eq s out at h ∙ append_assoc (take at out) s (drop (at + length s) out))

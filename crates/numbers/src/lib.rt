@@ -14,19 +14,12 @@ ghost use Rattle.numbers.specs.BigEndian.{u16_at, u32_at, u16_bytes, u32_bytes};
 pub use counting::{one_if, stride, wide, wide16};
 pub use runs::{all_zero, put_part, put_zeros};
 
-// A byte as the number of two bytes that it is the low one of.
-fn low_byte(x: u8) -> u16
-    ensures { (result ≡ x) × (result < 256) }
-{
-    x as u16
-}
-
 // The number of the two bytes of b at an offset.
 pub fn u16_at(b: &[u8], at: usize) -> u16
     requires { at + 2 ≤ length b.now }
     ensures { result ≡ u16_at b.now at }
 {
-    low_byte(b[at]) * 256 + low_byte(b[at + 1])
+    u16::from_be_bytes([b[at], b[at + 1]])
 }
 
 // The number of the four bytes of b at an offset.
@@ -34,7 +27,15 @@ pub fn u32_at(b: &[u8], at: usize) -> u32
     requires { at + 4 ≤ length b.now }
     ensures { result ≡ u32_at b.now at }
 {
-    (u16_at(b, at) as u32) * 65536 + (u16_at(b, at + 2) as u32)
+    u32::from_be_bytes([b[at], b[at + 1], b[at + 2], b[at + 3]])
+}
+
+// Stores N bytes of out at an offset. The other bytes keep their values.
+fn put_bytes<const N: usize>(out: &mut [u8], at: usize, bytes: [u8; N])
+    requires { at + N ≤ length out.old }
+    ensures { out.new ≡ sets out.old at bytes.entry }
+{
+    out[at..at + N].copy_from_slice(&bytes);
 }
 
 // Stores v as the byte of out at an offset. The other bytes keep their values.
@@ -50,8 +51,7 @@ pub fn put_u16(out: &mut [u8], at: usize, v: u16)
     requires { at + 2 ≤ length out.old }
     ensures { out.new ≡ sets out.old at (u16_bytes v) }
 {
-    out[at] = (v / 256) as u8;
-    out[at + 1] = (v % 256) as u8;
+    put_bytes(out, at, u16::to_be_bytes(v));
 }
 
 // Stores v as four bytes of out at an offset. The other bytes keep their values.
@@ -59,6 +59,5 @@ pub fn put_u32(out: &mut [u8], at: usize, v: u32)
     requires { at + 4 ≤ length out.old }
     ensures { out.new ≡ sets out.old at (u32_bytes v) }
 {
-    put_u16(out, at, (v / 65536) as u16);
-    put_u16(out, at + 2, (v % 65536) as u16);
+    put_bytes(out, at, u32::to_be_bytes(v));
 }

@@ -8,13 +8,7 @@ pub fn all_zero(b: &[u8], at: usize, n: usize) -> bool
     requires { at + n ≤ length b.now }
     ensures { result ≡ zeros b.now at n }
 {
-    let mut seen: u8 = 0;
-    let mut i = 0;
-    while i < n {
-        seen = seen | b[at + i];
-        i += 1;
-    }
-    seen == 0
+    b[at..at + n].iter().fold(0, |seen, x| seen | *x) == 0
 }
 
 // Stores n zero bytes of out at an offset. The other bytes keep their values.
@@ -22,11 +16,7 @@ pub fn put_zeros(out: &mut [u8], at: usize, n: usize)
     requires { at + n ≤ length out.old }
     ensures { out.new ≡ sets out.old at (replicate n 0) }
 {
-    let mut i = 0;
-    while i < n {
-        out[at + i] = 0;
-        i += 1;
-    }
+    out[at..at + n].fill(0);
 }
 
 // Stores n bytes of src, which begin at a, as bytes of out at an offset. The other bytes keep their values.

@@ -10,7 +10,7 @@ ghost use Rattle.nodes.specs.Node.{node_id, row_of};
 ghost use Rattle.records.specs.Rows.{Tabled, key_after, marked_by, Marked, any_edge};
 
 use crate::rows::row_in;
-use layout::{Form, POLICIES_FIELD, ROWS, edge_offset};
+use layout::{EDGE_WIDTH, Form, POLICIES_FIELD, ROWS, edge_offset};
 use nodes::is_own;
 use numbers::u16_at;
 
@@ -67,8 +67,7 @@ fn mark_left(form: Form, b: &[u8], rows: &[u16; 65536], left: &mut [u8; ROWS], f
 }
 
 // Reads the j-th edge, which stands at an offset and whose key may be low at least. Where it is in order the row of its from
-// end is marked, and the answer is what the next key may be at least; else nothing is marked, and the answer is 0. Each end is
-// read once.
+// end is marked, and the answer is what the next key may be at least; else nothing is marked. Each end is read once.
 fn read_edge(
     form: Form,
     b: &[u8],
@@ -77,7 +76,7 @@ fn read_edge(
     j: usize,
     at: usize,
     low: usize,
-) -> usize
+) -> Option<usize>
     requires tabled { Tabled form b.now rows.now × (j < edge_count b.now) }
     requires at_value { (at ≡ edge_offset form b.now j) × (low ≡ least (edge_key form b.now) j) }
     ensures next { result ≡ key_after form b.now j }
@@ -87,13 +86,13 @@ fn read_edge(
     let from = u16_at(b, at + 2);
     let key = edge_key(to, from);
     if key < low {
-        return 0;
+        return None;
     }
     if !edge_formed(form, b, rows, to, from, at) {
-        return 0;
+        return None;
     }
     mark_left(form, b, rows, left, from);
-    key + 1
+    Some(key + 1)
 }
 
 // The first of n edges that is ill formed or does not rise, or n. Marks the rows that the edges before it leave.
@@ -102,18 +101,16 @@ pub fn bad_edge(form: Form, b: &[u8], rows: &[u16; 65536], left: &mut [u8; ROWS]
     ensures bad { result ≡ first_bad (edge_ok form b.now) n }
     ensures marks { left.new ≡ table_after (marked_by form b.now any_edge) result left.old }
 {
-    let mut j = 0;
     let mut o = edge_offset(form, b, 0);
     let mut low = 0;
-    while j < n {
-        low = read_edge(form, b, rows, left, j, o, low);
-        if low == 0 {
+    for j in 0..n {
+        let Some(next) = read_edge(form, b, rows, left, j, o, low) else {
             return j;
-        }
-        o += 5;
-        j += 1;
+        };
+        low = next;
+        o += EDGE_WIDTH;
     }
-    j
+    n
 }
 
 // Whether the i-th node is an own one, or an input that an edge leaves.
@@ -132,12 +129,10 @@ pub fn bad_input(form: Form, b: &[u8], left: &[u8; ROWS], n: usize) -> usize
     requires { Room form b.now × (n ≡ node_count b.now) × Marked form b.now any_edge (edge_count b.now) left.now }
     ensures { result ≡ first_bad (input_ok form b.now) n }
 {
-    let mut i = 0;
-    while i < n {
+    for i in 0..n {
         if !input_left(form, b, left, i) {
             return i;
         }
-        i += 1;
     }
-    i
+    n
 }

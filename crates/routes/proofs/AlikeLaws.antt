@@ -1,49 +1,12 @@
--- Equality of policies: one law for each field in which two may differ, as the code takes them; equal in all seven means the same policy.
+-- Equality of policies: equal in all seven fields means the same policy.
 use mathlib.Core.Path.{◌≡◌, refl}
-use mathlib.Core.Bool.{Bool, true, false, cond}
-use Prim.Native.Nat.{ℕ}
+use mathlib.Core.Bool.{Bool, true, false}
 use native.Mathlib.Omega.{arith}
 use lib.Dec.{eqb}
-use borrow.Author.Tests.{eq-eqb, ne_eqb, eqb-true}
+use borrow.Author.Tests.{eq-eqb, eqb-true}
 use Rattle.lists.proofs.Test.{and_l, and_r}
 use Rattle.routes.specs.Alike.{flag_byte, same_policy}
 use Rattle.routes.specs.declared.Policy.{Policy}
-
-module _ (p q : Policy) where
-  pub differ_need : (p.need ≡ q.need → ⊥) → false ≡ same_policy p q
-  unfolding same_policy
-  differ_need n = rw (ne_eqb _ _ n)
-
-  module _ (e₁ : p.need ≡ q.need) where
-    pub differ_bar : (p.bar ≡ q.bar → ⊥) → false ≡ same_policy p q
-    unfolding same_policy
-    differ_bar n = rw (eq-eqb _ _ e₁, ne_eqb _ _ n)
-
-    module _ (e₂ : p.bar ≡ q.bar) where
-      pub differ_clear : (p.clear ≡ q.clear → ⊥) → false ≡ same_policy p q
-      unfolding same_policy
-      differ_clear n = rw (eq-eqb _ _ e₁, eq-eqb _ _ e₂, ne_eqb _ _ n)
-
-      module _ (e₃ : p.clear ≡ q.clear) where
-        pub differ_set : (p.set ≡ q.set → ⊥) → false ≡ same_policy p q
-        unfolding same_policy
-        differ_set n = rw (eq-eqb _ _ e₁, eq-eqb _ _ e₂, eq-eqb _ _ e₃, ne_eqb _ _ n)
-
-        module _ (e₄ : p.set ≡ q.set) (a b : ℕ) (ea : a ≡ cond p.flag 1 0) (eb : b ≡ cond q.flag 1 0) where
-          pub differ_flag : (a ≡ b → ⊥) → false ≡ same_policy p q
-          unfolding same_policy
-          differ_flag n = rw (eq-eqb _ _ e₁, eq-eqb _ _ e₂, eq-eqb _ _ e₃, eq-eqb _ _ e₄, ← ea, ← eb, ne_eqb _ _ n)
-
-          module _ (e₅ : a ≡ b) where
-            pub differ_preference : (p.preference ≡ q.preference → ⊥) → false ≡ same_policy p q
-            unfolding same_policy
-            differ_preference n = rw (eq-eqb _ _ e₁, eq-eqb _ _ e₂, eq-eqb _ _ e₃, eq-eqb _ _ e₄, ← ea, ← eb, eq-eqb _ _ e₅, ne_eqb _ _ n)
-
-            pub equal_added : p.preference ≡ q.preference → eqb p.added q.added ≡ same_policy p q
-            unfolding same_policy
-            equal_added e₆ = rw (eq-eqb _ _ e₁, eq-eqb _ _ e₂, eq-eqb _ _ e₃, eq-eqb _ _ e₄, ← ea, ← eb, eq-eqb _ _ e₅, eq-eqb _ _ e₆)
-
-pub ruleset likening = (differ_need, differ_bar, differ_clear, differ_set, differ_flag, differ_preference, equal_added)
 
 same_flag : (s t : Bool) → flag_byte s ≡ flag_byte t → s ≡ t
 same_flag true true e = refl

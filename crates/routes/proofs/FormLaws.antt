@@ -1,8 +1,8 @@
 -- Routes and policies as bytes, as the code reads them.
 --     forming, reading, fields_read          routes
 --     preferences, policies, policy_read     policies
-use mathlib.Core.Path.{◌≡◌, refl, sym}
-use mathlib.Core.Bool.{Bool, true, false, not, false≢true}
+use mathlib.Core.Path.{◌≡◌, refl}
+use mathlib.Core.Bool.{Bool, true, false}
 use mathlib.Core.List.{List}
 use Prim.Native.Nat.{ℕ, ◌+◌, ◌-◌}
 use lib.Dec.{eqb, leb}
@@ -60,15 +60,13 @@ module _ (b : List ℕ) (o : ℕ) where
   unfolding preference_formed
   preference_other p q = rw (ne_eqb _ _ p, ne_eqb _ _ q)
 
-  pub policy_ill : (t : Bool) → t ≡ preference_formed b (o + 8) → not t ≡ true → false ≡ policy_formed b o
+  pub policy_ill : (t : Bool) → t ≡ preference_formed b (o + 8) → t ≡ false → t ≡ policy_formed b o
   unfolding policy_formed
-  policy_ill true e q = absurd (false≢true q)
-  policy_ill false e q = rw (sym e) refl
+  policy_ill t e q = rw (← e, q) refl
 
-  pub policy_adds : (t : Bool) → t ≡ preference_formed b (o + 8) → not t ≡ false → (v : ℕ) → v ≡ u16_at b (o + 11) → leb 1 v ≡ policy_formed b o
+  pub policy_adds : (t : Bool) → t ≡ preference_formed b (o + 8) → t ≡ true → (v : ℕ) → v ≡ u16_at b (o + 11) → leb 1 v ≡ policy_formed b o
   unfolding policy_formed
-  policy_adds true e q v h = rw (sym e, h) refl
-  policy_adds false e q v h = absurd (false≢true (sym q))
+  policy_adds t e q v h = rw (← e, q, h) refl
 
   pub policy_read : (need bar clear set preference added : ℕ)
       → need ≡ u16_at b o → bar ≡ u16_at b (o + 2) → clear ≡ u16_at b (o + 4) → set ≡ u16_at b (o + 6) → preference ≡ u16_at b (o + 9) → added ≡ u16_at b (o + 11)

@@ -7,7 +7,6 @@ pub mod RouteCodec
 pub mod PolicyCodec
 -- Laws for the code's own proofs.
 pub mod OrderLaws
-pub mod SameLaws
 pub mod WireLaws
 pub mod MetLaws
 pub mod FormLaws

@@ -3,7 +3,7 @@ use mathlib.Core.Path.{◌≡◌}
 use mathlib.Core.Bool.{true, false}
 use Prim.Native.Nat.{ℕ, ◌≤◌, ◌<◌}
 use lib.Bits.{bit_and}
-use lib.Dec.{eqb}
+use lib.Dec.{eqb, leb}
 use borrow.Author.Tests.{le-leb, lt-leb}
 use Rattle.routes.specs.Demand.{meets}
 use Rattle.routes.specs.declared.Fields.{Fields}
@@ -21,7 +21,7 @@ module _ (d : Demand) (r : Route) where
   unfolding meets
   met_none c t e q = rw (e, q)
 
-  pub met_dear : (c t : ℕ) (f : Fields) → d ≡ Hold c t → r ≡ Held f → c < f.cost → false ≡ meets d r
+  pub met_dear : (c t : ℕ) (f : Fields) → d ≡ Hold c t → r ≡ Held f → c < f.cost → leb f.cost c ≡ meets d r
   unfolding meets
   met_dear c t f e q h = rw (e, q, lt-leb f.cost c h)
 

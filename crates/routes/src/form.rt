@@ -57,10 +57,7 @@ pub fn policy_formed(b: &[u8], at: usize) -> bool
     requires { at + 13 ≤ length b.now }
     ensures { result ≡ policy_formed b.now at }
 {
-    if !preference_formed(b, at + 8) {
-        return false;
-    }
-    1 <= u16_at(b, at + 11)
+    preference_formed(b, at + 8) && 1 <= u16_at(b, at + 11)
 }
 
 // The policy of the 13 bytes of b at an offset.

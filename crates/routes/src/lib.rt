@@ -17,7 +17,7 @@ pub use order::better;
 pub use wire::{HIGHEST, carry};
 
 // A route that is there.
-#[derive(Clone, Copy)]
+#[derive(Clone, Copy, PartialEq, Eq)]
 pub struct Fields {
     pub preference: u16,
     pub cost: u16,
@@ -26,14 +26,14 @@ pub struct Fields {
 }
 
 // No route is a real value wherever a route stands.
-#[derive(Clone, Copy)]
+#[derive(Clone, Copy, PartialEq, Eq)]
 pub enum Route {
     None,
     Held(Fields),
 }
 
 // What a wire does to a route that crosses it. The four masks are sets of tags.
-#[derive(Clone, Copy)]
+#[derive(Clone, Copy, PartialEq, Eq)]
 pub struct Policy {
     pub need: u16,
     pub bar: u16,
@@ -45,7 +45,7 @@ pub struct Policy {
 }
 
 // What is asked of the route that a box holds.
-#[derive(Clone, Copy)]
+#[derive(Clone, Copy, PartialEq, Eq)]
 pub enum Demand {
     Nothing,
     Hold { ceiling: u16, tags: u16 },

@@ -12,16 +12,8 @@ pub fn is_met(demand: Demand, route: Route) -> bool
         Demand::Nothing => true,
         Demand::Hold { ceiling, tags } => match route {
             Route::None => false,
-            Route::Held(f) => {
-                if ceiling < f.cost {
-                    return false;
-                }
-                f.tags & tags == tags
-            }
+            Route::Held(f) => f.cost <= ceiling && f.tags & tags == tags,
         },
-        Demand::HoldNone => match route {
-            Route::None => true,
-            Route::Held(_) => false,
-        },
+        Demand::HoldNone => matches!(route, Route::None),
     }
 }

@@ -1,13 +1,7 @@
--- The two stores are the definition's two bytes, at the offset and behind it.
-use native.Mathlib.Numerals.{add-one}
-use native.Mathlib.Omega.{arith}
-use lib.ListN.{length-set}
-use Rattle.numbers.specs.BigEndian.{u16_bytes}
+-- The bytes that the kit makes of the number are the definition's (u16_written).
+use borrow.Author.Rules.{rules}
+use Rattle.numbers.proofs.Laws.{u16_written}
 use Rattle.numbers.proofs.put_u16.Goals as goal
 
-pub bounds-out-at-2 : goal.bounds-out-at-2
-bounds-out-at-2 c = simp length-set (omega arith)
-
 pub returns : goal.returns
-unfolding u16_bytes
-returns c = simp add-one
+returns c = search (rules, u16_written)

@@ -1,7 +1,7 @@
--- Two numbers of two bytes, one behind the other, are the four bytes (u32_put).
-use Rattle.numbers.proofs.Laws.{u32_put}
+-- The bytes that the kit makes of the number are the definition's (u32_written).
 use borrow.Author.Rules.{rules}
+use Rattle.numbers.proofs.Laws.{u32_written}
 use Rattle.numbers.proofs.put_u32.Goals as goal
 
 pub returns : goal.returns
-returns c = search (rules, u32_put)
+returns c = search (rules, u32_written)

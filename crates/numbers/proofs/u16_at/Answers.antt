@@ -1,8 +1,7 @@
--- Two bytes, each below 256, make the number by its definition.
-use borrow.Author.Rules.{rules}
-use Rattle.numbers.specs.BigEndian.{u16_at}
+-- The kit's number of two bytes is the definition's (u16_read).
+use mathlib.Core.Path.{◌∙◌}
+use Rattle.numbers.proofs.Laws.{u16_read}
 use Rattle.numbers.proofs.u16_at.Goals as goal
 
 pub returns : goal.returns
-unfolding u16_at
-returns c = search rules
+returns c = c.from_be_bytes.ensures ∙ u16_read c.args.b.now c.args.at

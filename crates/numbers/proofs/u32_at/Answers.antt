@@ -1,8 +1,7 @@
--- Two numbers of two bytes make one of four by its definition.
-use borrow.Author.Rules.{rules}
-use Rattle.numbers.specs.BigEndian.{u32_at}
+-- The kit's number of four bytes is the definition's (u32_read).
+use mathlib.Core.Path.{◌∙◌}
+use Rattle.numbers.proofs.Laws.{u32_read}
 use Rattle.numbers.proofs.u32_at.Goals as goal
 
 pub returns : goal.returns
-unfolding u32_at
-returns c = search rules
+returns c = c.from_be_bytes.ensures ∙ u32_read c.args.b.now c.args.at

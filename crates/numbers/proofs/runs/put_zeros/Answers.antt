@@ -1,15 +1,8 @@
-use Rattle.numbers.proofs.RunLaws.{zeros_put}
-use Rattle.lists.proofs.Laid.{stored_again}
-use lib.ListN.{length-set}
-use mathlib.Core.Path.{refl}
+-- The zeros laid over a part of the buffer are a store of them at the part's offset (run_put).
+use lib.ListN.{replicate, length-replicate}
+use Rattle.numbers.proofs.RunLaws.{run_put}
 use borrow.Author.Rules.{rules}
 use Rattle.numbers.proofs.runs.put_zeros.Goals as goal
 
-pub loop-i-init : goal.loop-i-init
-loop-i-init c = (search rules, refl, refl)
-
-pub loop-i-preserved : goal.loop-i-preserved
-loop-i-preserved c = (search rules, simp length-set (search rules), search (rules, stored_again))
-
 pub returns : goal.returns
-returns c = search (rules, zeros_put)
+returns c = run_put _ _ (replicate c.args.n 0) _ c.args.n (length-replicate c.args.n 0) c.requires (search rules)

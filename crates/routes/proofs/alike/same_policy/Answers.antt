@@ -1,31 +1,16 @@
--- One law for each field in which the two may differ.
-use Rattle.routes.proofs.AlikeLaws.{likening}
-use borrow.Author.Rules.{rules}
+-- The derived equality compares the seven fields in the definition's order, and a flag as the flag byte does (flag_alike).
+use mathlib.Core.Path.{◌≡◌, refl}
+use mathlib.Core.Bool.{Bool, true, false, beq}
+use lib.Dec.{eqb}
+use Rattle.routes.specs.Alike.{flag_byte, same_policy}
 use Rattle.routes.proofs.alike.same_policy.Goals as goal
 
-pub returns-then-p-q : goal.returns-then-p-q
-returns-then-p-q c = search (rules, likening)
-
-pub returns-then-p-q-2 : goal.returns-then-p-q-2
-returns-then-p-q-2 c = search (rules, likening)
-
-pub returns-then-p-q-3 : goal.returns-then-p-q-3
-returns-then-p-q-3 c = search (rules, likening)
-
-pub returns-then-p-q-4 : goal.returns-then-p-q-4
-returns-then-p-q-4 c = search (rules, likening)
-
-pub one_if-requires : goal.one_if-requires
-one_if-requires c = search (rules, likening)
-
-pub one_if-requires-2 : goal.one_if-requires-2
-one_if-requires-2 c = search (rules, likening)
-
-pub returns-then-one_if : goal.returns-then-one_if
-returns-then-one_if c = search (rules, likening)
-
-pub returns-then-p-q-5 : goal.returns-then-p-q-5
-returns-then-p-q-5 c = search (rules, likening)
+flag_alike : (s t : Bool) → beq s t ≡ eqb (flag_byte s) (flag_byte t)
+flag_alike true true = refl
+flag_alike true false = refl
+flag_alike false true = refl
+flag_alike false false = refl
 
 pub returns : goal.returns
-returns c = search (rules, likening)
+unfolding same_policy
+returns c = rw (← flag_alike c.args.p.flag c.args.q.flag) c.eq.ensures

@@ -3,8 +3,8 @@ use Rattle.routes.proofs.FormLaws.{policies}
 use borrow.Author.Rules.{rules}
 use Rattle.routes.proofs.form.policy_formed.Goals as goal
 
-pub returns-then-not-preference_formed : goal.returns-then-not-preference_formed
-returns-then-not-preference_formed c = search (rules, policies)
+pub returns-then-preference_formed : goal.returns-then-preference_formed
+returns-then-preference_formed c = search (rules, policies)
 
-pub returns : goal.returns
-returns c = search (rules, policies)
+pub returns-else-preference_formed : goal.returns-else-preference_formed
+returns-else-preference_formed c = search (rules, policies)
