@@ -55,7 +55,7 @@ pub fn run<P: Program>(rt: &HostRuntime, program: &P, room: &mut [u8], out: &mut
 fn write_answer<P: Program>(rt: &HostRuntime, room: &[u8], count: usize, answer: &[u8])
     requires { Answers P.text room.now count answer.now }
 {
-    write_output(rt, answer, P::UNWRITTEN);
+    let _ = write_output(rt, answer, P::UNWRITTEN);
 }
 
 // One read into a room behind the bytes that are done: 0 is the end of the input.
@@ -66,8 +66,8 @@ fn read_behind(rt: &HostRuntime, room: &mut [u8], done: usize) -> io::Result<usi
     rt.stdin().read(&mut room[done..])
 }
 
-// Reads standard input to its end, or until the room is full: so many bytes stand at its start. Fewer than there was room for are all of the
-// input.
+// Reads to the end of standard input, or until the room is full: so many bytes stand at its start. Fewer than there was room for are all of
+// the input.
 fn read_all(rt: &HostRuntime, room: &mut [u8]) -> io::Result<usize>
     ensures { Within result (length room.new) }
 {
@@ -82,27 +82,24 @@ fn read_all(rt: &HostRuntime, room: &mut [u8]) -> io::Result<usize>
     Ok(done)
 }
 
-// The same. Says the words where a read fails.
+// Says the words on standard error where a call failed. Where that fails too there is nothing left to say it on.
+fn said<T>(rt: &HostRuntime, called: io::Result<T>, words: &[u8]) -> io::Result<T>
+    ensures { result ≡ called }
+{
+    if called.is_err() {
+        let _ = rt.stderr().write_all(words);
+    }
+    called
+}
+
+// Reads standard input to its end, or until the room is full, and says the words where a read fails.
 pub fn read_input(rt: &HostRuntime, room: &mut [u8], words: &[u8]) -> io::Result<usize>
     ensures { Within result (length room.new) }
 {
-    let read = read_all(rt, room);
-    if read.is_err() {
-        say(rt, words);
-    }
-    read
+    said(rt, read_all(rt, room), words)
 }
 
-// Says words on standard error. Where that fails there is nothing left to say it on.
-fn say(rt: &HostRuntime, words: &[u8]) {
-    let _ = rt.stderr().write_all(words);
-}
-
-// Writes all of a text to standard output, and answers whether that was done. Says the words where a write fails.
-pub fn write_output(rt: &HostRuntime, text: &[u8], words: &[u8]) -> bool {
-    if rt.stdout().write_all(text).is_ok() {
-        return true;
-    }
-    say(rt, words);
-    false
+// Writes all of a text to standard output, and says the words where a write fails.
+pub fn write_output(rt: &HostRuntime, text: &[u8], words: &[u8]) -> io::Result<()> {
+    said(rt, rt.stdout().write_all(text), words)
 }
