@@ -2,3 +2,4 @@
 pub mod Tables
 pub mod Marks
 pub mod Pieces
+pub mod OneProof
