@@ -16,7 +16,8 @@ use writing::{put_edge, put_input, put_node, put_promised};
 // The node in row i, by what is kept of it.
 pub fn lay_node(entered: Entered, pieces: &[Kept; ROWS], i: usize, out: &mut [u8]) -> usize
     requires notes { NotesOfOwn entered.form entered.network.now pieces.now }
-    requires i_bound { (i < node_count entered.network.now) × (length (node_of entered pieces.now i) ≤ length out.old) }
+    requires i_bound { i < node_count entered.network.now }
+    requires room { length (node_of entered pieces.now i) ≤ length out.old }
     ensures size { result ≡ length (node_of entered.entry pieces.now i) }
     ensures laid { out.new ≡ over (node_of entered.entry pieces.now i) out.old }
 {
@@ -46,7 +47,8 @@ pub fn lay_node(entered: Entered, pieces: &[Kept; ROWS], i: usize, out: &mut [u8
 
 // The j-th edge, which stands at an offset, where its to end is in the fragment.
 pub fn lay_edge(wires: Wires, j: usize, at: usize, out: &mut [u8]) -> usize
-    requires j_bound { (j < edge_count wires.network.now) × (at ≡ edge_offset wires.form wires.network.now j) × (length (edge_of wires j) ≤ length out.old) }
+    requires j_bound { (j < edge_count wires.network.now) × (at ≡ edge_offset wires.form wires.network.now j) }
+    requires room { length (edge_of wires j) ≤ length out.old }
     ensures size { result ≡ length (edge_of wires.entry j) }
     ensures laid { out.new ≡ over (edge_of wires.entry j) out.old }
 {

@@ -1,6 +1,7 @@
 -- What the tables of a fragment say, by the types that hold them.
---     crossing, entering           the cut wires, and those that lead into the fragment
---     kept_of, reaching, PiecesOf     what is kept of the rows, and of the edges
+--     crossing, entering              the cut wires, and those that lead into the fragment
+--     kept_of, keeping, PiecesOf      what is kept of the rows, and the table of it
+--     reaching                        which edges are kept
 --     LeavesOf, FeedsOf               the marks
 use Rattle.std.specs.Prelude.{ℕ, Bool, List}
 use Rattle.marking.specs.declared.tables.Entered.{Entered}
@@ -8,7 +9,7 @@ use Rattle.marking.specs.declared.tables.Fragment.{Fragment}
 use Rattle.marking.specs.declared.tables.Wires.{Wires}
 use Rattle.marking.specs.declared.pieces.Kept.{Kept}
 use Rattle.marking.specs.Marks.{crosses, reaches, Leaving, Feeding}
-use Rattle.marking.specs.Pieces.{keeps, Pieces}
+use Rattle.marking.specs.Pieces.{keeps, with_piece, Pieces}
 
 module _ (w : Wires) where
   abbrev pub crossing : ℕ → Bool
@@ -26,6 +27,9 @@ module _ (c : Fragment) where
 
   abbrev pub kept_of : ℕ → Bool
   kept_of = keeps c.entered.form c.entered.network.now c.entered.sheet.now c.k
+
+  abbrev pub keeping : ℕ → List Kept → List Kept
+  keeping = with_piece c.entered.form c.entered.network.now c.entered.sheet.now c.k
 
   abbrev pub reaching : ℕ → Bool
   reaching = reaches c.entered.form c.entered.network.now c.fragments.now c.k
