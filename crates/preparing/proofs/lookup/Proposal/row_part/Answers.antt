@@ -1,13 +1,13 @@
 -- The count through both records is within the network, and the row is an input's (network_part), or it is not, and the row is an own box's (list_part).
 use Rattle.preparing.proofs.LookupLaws.{row_parts}
 use borrow.Author.Rules.{rules}
-use Rattle.preparing.proofs.lookup.row_part.Goals as goal
+use Rattle.preparing.proofs.lookup.Proposal.row_part.Goals as goal
 
-pub offset_bounds-stands-row : goal.offset_bounds-stands-row
-offset_bounds-stands-row c = search (rules, row_parts)
+pub offset_bounds-self-row : goal.offset_bounds-self-row
+offset_bounds-self-row c = search (rules, row_parts)
 
-pub bounds-stands-row : goal.bounds-stands-row
-bounds-stands-row c = search (rules, row_parts)
+pub bounds-self-row : goal.bounds-self-row
+bounds-self-row c = search (rules, row_parts)
 
 pub overflow_add-result : goal.overflow_add-result
 overflow_add-result c = search (rules, row_parts)
