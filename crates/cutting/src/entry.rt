@@ -4,13 +4,12 @@ ghost use Rattle.lists.specs.Gather.{count};
 ghost use Rattle.lists.specs.Laid.{placed};
 ghost use Rattle.layout.specs.Layout.{edge_count};
 ghost use Rattle.records.specs.Rows.{Filled};
-ghost use Rattle.reading.specs.Whole.{write_network};
 ghost use Rattle.outcomes.specs.Outcomes.{outcome_of};
 ghost use Rattle.outcomes.specs.Room.{in_room, record_answer, laid_answer};
 ghost use Rattle.cutting.specs.Cutting.{cut_said, cut_records, cut_buffer};
-ghost use Rattle.cutting.specs.Stages.{AllEntered, Asked};
-ghost use Rattle.laying.specs.Pieces.{fragment_in};
-ghost use Rattle.marking.specs.Marks.{reaches, Leaving, Feeding};
+ghost use Rattle.cutting.specs.Stages.{said_of, EnteredOf, AskedOf};
+ghost use Rattle.laying.specs.Records.{record_of};
+ghost use Rattle.marking.specs.Fragments.{reaching, LeavesOf, FeedsOf};
 ghost use Rattle.records.specs.Checked.{CheckedRows, CheckedEntries};
 ghost use Rattle.layout.specs.Form.{sheet_lead};
 
@@ -33,10 +32,10 @@ fn cut_agreed(
     out: &mut [u8],
 ) -> Result<usize, Refusal>
     requires filled { Filled fragment.entered.form fragment.entered.network.now rows.now }
-    requires edges_value { edges ≡ count (reaches fragment.entered.form fragment.entered.network.now fragment.fragments.now fragment.k) (edge_count fragment.entered.network.now) }
-    requires leaving { Leaving fragment.entered.form fragment.entered.network.now fragment.entered.sheet.now leaves.now × Feeding fragment.entered.form fragment.entered.network.now fragment.entered.sheet.now fragment.k feeds.now }
-    ensures answer { outcome_of result ≡ in_room (length out.old) (length (write_network fragment.entry.entered.form (fragment_in fragment.entry.entered.form fragment.entry.entered.network.now fragment.entry.entered.sheet.now fragment.entry.k))) }
-    ensures buffer { out.new ≡ placed (write_network fragment.entry.entered.form (fragment_in fragment.entry.entered.form fragment.entry.entered.network.now fragment.entry.entered.sheet.now fragment.entry.k)) out.old }
+    requires edges_value { edges ≡ count (reaching fragment) (edge_count fragment.entered.network.now) }
+    requires leaving { LeavesOf fragment.entered leaves.now × FeedsOf fragment feeds.now }
+    ensures answer { outcome_of result ≡ in_room (length out.old) (length (record_of fragment.entry)) }
+    ensures buffer { out.new ≡ placed (record_of fragment.entry) out.old }
 {
     let n = usize::from(u16_at(fragment.entered.network, NODES_FIELD));
     let mut pieces = [Kept::Nothing; ROWS];
@@ -48,9 +47,10 @@ fn cut_agreed(
 
 // Numbers 19 and 20, or the record.
 fn cut_asked(fragment: Fragment, rows: &[u16; 65536], out: &mut [u8]) -> Result<usize, Refusal>
-    requires { Filled fragment.entered.form fragment.entered.network.now rows.now × AllEntered fragment.entered.form fragment.entered.network.now fragment.entered.sheet.now × Asked fragment.entered.form fragment.entered.network.now fragment.entered.sheet.now fragment.k }
-    ensures answer { outcome_of result ≡ record_answer fragment.entry.entered.form (length out.old) (cut_said fragment.entry.entered.form fragment.entry.entered.network.now fragment.entry.entered.sheet.now fragment.entry.k) }
-    ensures buffer { out.new ≡ laid_answer fragment.entry.entered.form (cut_said fragment.entry.entered.form fragment.entry.entered.network.now fragment.entry.entered.sheet.now fragment.entry.k) out.old }
+    requires filled { Filled fragment.entered.form fragment.entered.network.now rows.now }
+    requires entered { EnteredOf fragment × AskedOf fragment }
+    ensures answer { outcome_of result ≡ record_answer fragment.entry.entered.form (length out.old) (said_of fragment.entry) }
+    ensures buffer { out.new ≡ laid_answer fragment.entry.entered.form (said_of fragment.entry) out.old }
 {
     let form = fragment.entered.form;
     let network = fragment.entered.network;
@@ -75,9 +75,10 @@ fn cut_asked(fragment: Fragment, rows: &[u16; 65536], out: &mut [u8]) -> Result<
 
 // Numbers 18 to 20, or the record.
 fn cut_entered(fragment: Fragment, rows: &[u16; 65536], out: &mut [u8]) -> Result<usize, Refusal>
-    requires { Filled fragment.entered.form fragment.entered.network.now rows.now × AllEntered fragment.entered.form fragment.entered.network.now fragment.entered.sheet.now }
-    ensures answer { outcome_of result ≡ record_answer fragment.entry.entered.form (length out.old) (cut_said fragment.entry.entered.form fragment.entry.entered.network.now fragment.entry.entered.sheet.now fragment.entry.k) }
-    ensures buffer { out.new ≡ laid_answer fragment.entry.entered.form (cut_said fragment.entry.entered.form fragment.entry.entered.network.now fragment.entry.entered.sheet.now fragment.entry.k) out.old }
+    requires filled { Filled fragment.entered.form fragment.entered.network.now rows.now }
+    requires entered { EnteredOf fragment }
+    ensures answer { outcome_of result ≡ record_answer fragment.entry.entered.form (length out.old) (said_of fragment.entry) }
+    ensures buffer { out.new ≡ laid_answer fragment.entry.entered.form (said_of fragment.entry) out.old }
 {
     let form = fragment.entered.form;
     let network = fragment.entered.network;

@@ -1,7 +1,8 @@
 // The nodes and the edges of the fragment, one behind another: the writer of each is lent what remains of the buffer.
 ghost use Rattle.std.specs.Prelude.{◌≡◌, ◌≤◌, length};
 ghost use Rattle.lists.specs.Laid.{over};
-ghost use Rattle.laying.specs.Pieces.{nodes_in, edges_in, NotesOfOwn};
+ghost use Rattle.laying.specs.Pieces.{NotesOfOwn};
+ghost use Rattle.laying.specs.Records.{nodes_of, edges_of};
 
 use crate::rows::{lay_edge, lay_node};
 use layout::{EDGE_WIDTH, EDGES_FIELD, NODES_FIELD, ROWS, edge_offset};
@@ -11,9 +12,9 @@ use numbers::u16_at;
 // The nodes. Answers how many bytes they are.
 pub fn lay_nodes(entered: Entered, pieces: &[Kept; ROWS], out: &mut [u8]) -> usize
     requires notes { NotesOfOwn entered.form entered.network.now pieces.now }
-    requires room { length (nodes_in entered.form entered.network.now entered.sheet.now entered.entries.now pieces.now) ≤ length out.old }
-    ensures size { result ≡ length (nodes_in entered.entry.form entered.entry.network.now entered.entry.sheet.now entered.entry.entries.now pieces.now) }
-    ensures laid { out.new ≡ over (nodes_in entered.entry.form entered.entry.network.now entered.entry.sheet.now entered.entry.entries.now pieces.now) out.old }
+    requires room { length (nodes_of entered pieces.now) ≤ length out.old }
+    ensures size { result ≡ length (nodes_of entered.entry pieces.now) }
+    ensures laid { out.new ≡ over (nodes_of entered.entry pieces.now) out.old }
 {
     let n = usize::from(u16_at(entered.network, NODES_FIELD));
     let mut o = 0;
@@ -25,8 +26,8 @@ pub fn lay_nodes(entered: Entered, pieces: &[Kept; ROWS], out: &mut [u8]) -> usi
 
 // The edges.
 pub fn lay_edges(wires: Wires, out: &mut [u8])
-    requires { length (edges_in wires.form wires.network.now wires.fragments.now wires.k) ≤ length out.old }
-    ensures { out.new ≡ over (edges_in wires.entry.form wires.entry.network.now wires.entry.fragments.now wires.entry.k) out.old }
+    requires { length (edges_of wires) ≤ length out.old }
+    ensures { out.new ≡ over (edges_of wires.entry) out.old }
 {
     let n = usize::from(u16_at(wires.network, EDGES_FIELD));
     let mut o = 0;

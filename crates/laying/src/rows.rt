@@ -3,7 +3,8 @@
 ghost use Rattle.std.specs.Prelude.{◌≡◌, ◌≤◌, ◌<◌, length};
 ghost use Rattle.lists.specs.Laid.{over};
 ghost use Rattle.layout.specs.Layout.{node_count, edge_count, edge_offset};
-ghost use Rattle.laying.specs.Pieces.{node_bytes, edge_bytes, NotesOfOwn};
+ghost use Rattle.laying.specs.Pieces.{NotesOfOwn};
+ghost use Rattle.laying.specs.Records.{node_of, edge_of};
 
 use layout::{ROWS, node_offset};
 use marking::{Entered, Kept, Wires};
@@ -15,9 +16,10 @@ use writing::{put_edge, put_input, put_node, put_promised};
 // The node in row i, by what is kept of it.
 pub fn lay_node(entered: Entered, pieces: &[Kept; ROWS], i: usize, out: &mut [u8]) -> usize
     requires notes { NotesOfOwn entered.form entered.network.now pieces.now }
-    requires i_bound { (i < node_count entered.network.now) × (length (node_bytes entered.form entered.network.now entered.sheet.now entered.entries.now pieces.now i) ≤ length out.old) }
-    ensures size { result ≡ length (node_bytes entered.entry.form entered.entry.network.now entered.entry.sheet.now entered.entry.entries.now pieces.now i) }
-    ensures laid { out.new ≡ over (node_bytes entered.entry.form entered.entry.network.now entered.entry.sheet.now entered.entry.entries.now pieces.now i) out.old }
+    requires i_bound { i < node_count entered.network.now }
+    requires room { length (node_of entered pieces.now i) ≤ length out.old }
+    ensures size { result ≡ length (node_of entered.entry pieces.now i) }
+    ensures laid { out.new ≡ over (node_of entered.entry pieces.now i) out.old }
 {
     let form = entered.form;
     let network = entered.network;
@@ -45,9 +47,10 @@ pub fn lay_node(entered: Entered, pieces: &[Kept; ROWS], i: usize, out: &mut [u8
 
 // The j-th edge, which stands at an offset, where its to end is in the fragment.
 pub fn lay_edge(wires: Wires, j: usize, at: usize, out: &mut [u8]) -> usize
-    requires j_bound { (j < edge_count wires.network.now) × (at ≡ edge_offset wires.form wires.network.now j) × (length (edge_bytes wires.form wires.network.now wires.fragments.now wires.k j) ≤ length out.old) }
-    ensures size { result ≡ length (edge_bytes wires.entry.form wires.entry.network.now wires.entry.fragments.now wires.entry.k j) }
-    ensures laid { out.new ≡ over (edge_bytes wires.entry.form wires.entry.network.now wires.entry.fragments.now wires.entry.k j) out.old }
+    requires j_bound { (j < edge_count wires.network.now) × (at ≡ edge_offset wires.form wires.network.now j) }
+    requires room { length (edge_of wires j) ≤ length out.old }
+    ensures size { result ≡ length (edge_of wires.entry j) }
+    ensures laid { out.new ≡ over (edge_of wires.entry j) out.old }
 {
     let to = row_in(
         wires.form,

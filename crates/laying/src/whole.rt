@@ -4,10 +4,9 @@ ghost use Rattle.lists.specs.Gather.{count};
 ghost use Rattle.lists.specs.Laid.{placed};
 ghost use Rattle.layout.specs.Layout.{node_count, edge_count};
 ghost use Rattle.records.specs.Rows.{Filled};
-ghost use Rattle.reading.specs.Whole.{write_network};
-ghost use Rattle.marking.specs.Pieces.{keeps, Pieces};
-ghost use Rattle.marking.specs.Marks.{reaches};
-ghost use Rattle.laying.specs.Pieces.{fragment_in, NotesOfOwn, FragmentParts};
+ghost use Rattle.marking.specs.Fragments.{kept_of, reaching, PiecesOf};
+ghost use Rattle.laying.specs.Pieces.{NotesOfOwn};
+ghost use Rattle.laying.specs.Records.{record_of, PartsOf};
 
 use crate::parts::{lay_edges, lay_nodes};
 use layout::{HEAD_WIDTH, POLICIES_FIELD, ROWS};
@@ -24,9 +23,11 @@ fn lay_parts(
     edges: u16,
     out: &mut [u8],
 )
-    requires notes { NotesOfOwn fragment.entered.form fragment.entered.network.now pieces.now × Filled fragment.entered.form fragment.entered.network.now rows.now × (size < 16777216) × (size ≤ length out.old) }
-    requires fragment_parts { FragmentParts fragment.entered.form fragment.entered.network.now fragment.entered.sheet.now fragment.entered.entries.now fragment.fragments.now pieces.now fragment.k size nodes edges }
-    ensures { out.new ≡ placed (write_network fragment.entry.entered.form (fragment_in fragment.entry.entered.form fragment.entry.entered.network.now fragment.entry.entered.sheet.now fragment.entry.k)) out.old }
+    requires notes { NotesOfOwn fragment.entered.form fragment.entered.network.now pieces.now }
+    requires filled { Filled fragment.entered.form fragment.entered.network.now rows.now }
+    requires room { (size < 16777216) × (size ≤ length out.old) }
+    requires fragment_parts { PartsOf fragment pieces.now size nodes edges }
+    ensures { out.new ≡ placed (record_of fragment.entry) out.old }
 {
     let form = fragment.entered.form;
     let network = fragment.entered.network;
@@ -60,10 +61,11 @@ pub fn lay(
     edges: usize,
     out: &mut [u8],
 ) -> usize
-    requires tables { Pieces fragment.entered.form fragment.entered.network.now fragment.entered.sheet.now fragment.entered.entries.now fragment.k pieces.now × Filled fragment.entered.form fragment.entered.network.now rows.now }
-    requires nodes_value { (nodes ≡ count (keeps fragment.entered.form fragment.entered.network.now fragment.entered.sheet.now fragment.k) (node_count fragment.entered.network.now)) × (edges ≡ count (reaches fragment.entered.form fragment.entered.network.now fragment.fragments.now fragment.k) (edge_count fragment.entered.network.now)) }
-    ensures size { result ≡ length (write_network fragment.entry.entered.form (fragment_in fragment.entry.entered.form fragment.entry.entered.network.now fragment.entry.entered.sheet.now fragment.entry.k)) }
-    ensures laid { out.new ≡ placed (write_network fragment.entry.entered.form (fragment_in fragment.entry.entered.form fragment.entry.entered.network.now fragment.entry.entered.sheet.now fragment.entry.k)) out.old }
+    requires tables { PiecesOf fragment pieces.now × Filled fragment.entered.form fragment.entered.network.now rows.now }
+    requires nodes_value { nodes ≡ count (kept_of fragment) (node_count fragment.entered.network.now) }
+    requires edges_value { edges ≡ count (reaching fragment) (edge_count fragment.entered.network.now) }
+    ensures size { result ≡ length (record_of fragment.entry) }
+    ensures laid { out.new ≡ placed (record_of fragment.entry) out.old }
 {
     let nodes = nodes as u16;
     let edges = edges as u16;

@@ -3,3 +3,4 @@ pub mod Tables
 pub mod Marks
 pub mod Pieces
 pub mod OneProof
+pub mod Fragments

@@ -13,20 +13,20 @@ rising-prop : (ids : ℕ → ℕ) (n : ℕ) → IsProp (Rising ids n)
 unfolding Rising
 rising-prop ids n = Prim.hlevel props
 
-module _ (f : Form) (network : List ℕ) where
+module _ {f : Form} {network : List ℕ} where
   pub network-prop : IsProp (CheckedNetwork f network)
   network-prop = Prim.hlevel (rising-prop, props)
 
-  pub filled-prop : (rows : List ℕ) → IsProp (Filled f network rows)
-  unfolding Filled
-  filled-prop rows = Prim.hlevel props
-
-  module _ (sheet table : List ℕ) where
+  module _ {sheet table : List ℕ} where
     pub entry_rows-prop : IsProp (EntryRows f sheet_lead network sheet table)
     entry_rows-prop = Prim.hlevel props
 
     pub numbered-prop : IsProp (Numbered f network sheet table)
     numbered-prop = Prim.hlevel props
 
-pub sheet-prop : (f : Form) (sheet : List ℕ) → IsProp (CheckedEntries f sheet_lead sheet)
-sheet-prop f sheet = Prim.hlevel (rising-prop, props)
+pub sheet-prop : {f : Form} {sheet : List ℕ} → IsProp (CheckedEntries f sheet_lead sheet)
+sheet-prop = Prim.hlevel (rising-prop, props)
+
+pub filled-prop : (f : Form) (network rows : List ℕ) → IsProp (Filled f network rows)
+unfolding Filled
+filled-prop f network rows = Prim.hlevel props

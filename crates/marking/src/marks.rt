@@ -6,7 +6,6 @@ ghost use Rattle.numbers.specs.BigEndian.{u16_at};
 ghost use Rattle.nodes.specs.Node.{row_of};
 ghost use Rattle.records.specs.Edge.{boxed};
 ghost use Rattle.records.specs.Rows.{marked_by};
-ghost use Rattle.marking.specs.Marks.{crosses, reaches};
 
 use crate::tables::Wires;
 use layout::{EDGE_WIDTH, ROWS, edge_offset};
@@ -14,6 +13,8 @@ use numbers::u16_at;
 use records::row_in;
 
 impl Wires<'_> {
+    ghost use Rattle.marking.specs.Fragments.{crossing, entering};
+
     // The row of the node whose id stands at an offset.
     fn row_at(self, at: usize) -> usize
         requires { (at + 2 ≤ length self.network.now) × (boxed self.form self.network.now (u16_at self.network.now at) ≡ true) }
@@ -27,9 +28,9 @@ impl Wires<'_> {
     // the edge is one of the fragment's.
     fn mark_wire(self, j: usize, at: usize, leaves: &mut [u8; ROWS], feeds: &mut [u8; ROWS]) -> bool
         requires { (j < edge_count self.network.now) × (at ≡ edge_offset self.form self.network.now j) }
-        ensures kept { result ≡ reaches self.entry.form self.entry.network.now self.entry.fragments.now self.entry.k j }
-        ensures left { leaves.new ≡ marked_by self.entry.form self.entry.network.now (crosses self.entry.form self.entry.network.now self.entry.fragments.now) j leaves.old }
-        ensures fed { feeds.new ≡ marked_by self.entry.form self.entry.network.now (reaches self.entry.form self.entry.network.now self.entry.fragments.now self.entry.k) j feeds.old }
+        ensures kept { result ≡ entering self.entry j }
+        ensures left { leaves.new ≡ marked_by self.entry.form self.entry.network.now (crossing self.entry) j leaves.old }
+        ensures fed { feeds.new ≡ marked_by self.entry.form self.entry.network.now (entering self.entry) j feeds.old }
     {
         let to = self.fragments[self.row_at(at)];
         let row = self.row_at(at + 2);
@@ -46,9 +47,9 @@ impl Wires<'_> {
     // Marks the rows that the n edges leave in both tables. Answers how many edges are the fragment's.
     pub fn mark_wires(self, n: usize, leaves: &mut [u8; ROWS], feeds: &mut [u8; ROWS]) -> usize
         requires { n ≡ edge_count self.network.now }
-        ensures kept { result ≡ count (reaches self.entry.form self.entry.network.now self.entry.fragments.now self.entry.k) n }
-        ensures left { leaves.new ≡ table_after (marked_by self.entry.form self.entry.network.now (crosses self.entry.form self.entry.network.now self.entry.fragments.now)) n leaves.old }
-        ensures fed { feeds.new ≡ table_after (marked_by self.entry.form self.entry.network.now (reaches self.entry.form self.entry.network.now self.entry.fragments.now self.entry.k)) n feeds.old }
+        ensures kept { result ≡ count (entering self.entry) n }
+        ensures left { leaves.new ≡ table_after (marked_by self.entry.form self.entry.network.now (crossing self.entry)) n leaves.old }
+        ensures fed { feeds.new ≡ table_after (marked_by self.entry.form self.entry.network.now (entering self.entry)) n feeds.old }
     {
         let mut kept = 0;
         let mut at = edge_offset(self.form, self.network, 0);

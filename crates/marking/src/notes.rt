@@ -3,7 +3,6 @@ ghost use Rattle.std.specs.Prelude.{◌≡◌, true, ◌+◌, ◌≤◌, ◌<◌
 ghost use Rattle.lists.specs.First.{first_bad};
 ghost use Rattle.layout.specs.Layout.{node_count};
 ghost use Rattle.nodes.specs.Node.{is_own};
-ghost use Rattle.marking.specs.Marks.{Leaving};
 ghost use Rattle.marking.specs.Pieces.{note_offset};
 ghost use Rattle.marking.specs.Tables.{unclashed};
 
@@ -13,6 +12,8 @@ use nodes::{is_own, promising_at};
 use routes::{route_at, same};
 
 impl Entered<'_> {
+    ghost use Rattle.marking.specs.Fragments.{LeavesOf};
+
     // The offset in the sheet of the note of the own node in row i.
     pub fn note_offset(self, i: usize) -> usize
         requires { (i < node_count self.network.now) × (is_own self.form self.network.now i ≡ true) }
@@ -24,7 +25,7 @@ impl Entered<'_> {
 
     // Whether the node in row i is no own one, or none that a cut wire leaves, or promises nothing but its note.
     fn keeps_promise(self, leaves: &[u8; ROWS], i: usize) -> bool
-        requires { (i < node_count self.network.now) × Leaving self.form self.network.now self.sheet.now leaves.now }
+        requires { (i < node_count self.network.now) × LeavesOf self leaves.now }
         ensures { result ≡ unclashed self.entry.form self.entry.network.now self.entry.sheet.now i }
     {
         if !is_own(self.form, self.network, i) {
@@ -47,7 +48,7 @@ impl Entered<'_> {
 
     // The first of n rows that is an own node which a cut wire leaves and whose promise is not its note, or n.
     pub fn first_clash(self, leaves: &[u8; ROWS], n: usize) -> usize
-        requires { (n ≡ node_count self.network.now) × Leaving self.form self.network.now self.sheet.now leaves.now }
+        requires { (n ≡ node_count self.network.now) × LeavesOf self leaves.now }
         ensures { result ≡ first_bad (unclashed self.entry.form self.entry.network.now self.entry.sheet.now) n }
     {
         for i in 0..n {

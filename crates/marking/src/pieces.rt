@@ -2,8 +2,7 @@
 ghost use Rattle.std.specs.Prelude.{◌≡◌, ◌<◌, cond, eqb};
 ghost use Rattle.lists.specs.Gather.{count, table_after};
 ghost use Rattle.layout.specs.Layout.{node_count};
-ghost use Rattle.marking.specs.Marks.{Leaving, Feeding};
-ghost use Rattle.marking.specs.Pieces.{keeps, kept_in, some_kept, with_piece};
+ghost use Rattle.marking.specs.Pieces.{kept_in, some_kept};
 ghost use Rattle.marking.specs.declared.pieces.Kept.TheVariants.{Nothing};
 
 use crate::tables::Fragment;
@@ -42,10 +41,12 @@ fn where_marked(mark: u8, kept: Kept) -> Kept
 }
 
 impl Fragment<'_> {
+    ghost use Rattle.marking.specs.Fragments.{keeping, kept_of, LeavesOf, FeedsOf};
+
     // What the fragment keeps of the node in row i.
     fn piece_of(self, leaves: &[u8; ROWS], feeds: &[u8; ROWS], i: usize) -> Kept
         requires row { i < node_count self.entered.network.now }
-        requires leaving { Leaving self.entered.form self.entered.network.now self.entered.sheet.now leaves.now × Feeding self.entered.form self.entered.network.now self.entered.sheet.now self.k feeds.now }
+        requires leaving { LeavesOf self.entered leaves.now × FeedsOf self feeds.now }
         ensures { result ≡ kept_in self.entry.entered.form self.entry.entered.network.now self.entry.entered.sheet.now self.entry.k i }
     {
         let form = self.entered.form;
@@ -74,9 +75,9 @@ impl Fragment<'_> {
         pieces: &mut [Kept; ROWS],
     ) -> usize
         requires rows { n ≡ node_count self.entered.network.now }
-        requires leaving { Leaving self.entered.form self.entered.network.now self.entered.sheet.now leaves.now × Feeding self.entered.form self.entered.network.now self.entered.sheet.now self.k feeds.now }
-        ensures kept { result ≡ count (keeps self.entry.entered.form self.entry.entered.network.now self.entry.entered.sheet.now self.entry.k) n }
-        ensures classified { pieces.new ≡ table_after (with_piece self.entry.entered.form self.entry.entered.network.now self.entry.entered.sheet.now self.entry.k) n pieces.old }
+        requires leaving { LeavesOf self.entered leaves.now × FeedsOf self feeds.now }
+        ensures kept { result ≡ count (kept_of self.entry) n }
+        ensures classified { pieces.new ≡ table_after (keeping self.entry) n pieces.old }
     {
         let mut kept = 0;
         for i in 0..n {

@@ -15,9 +15,9 @@ pub struct Entered<'a> {
     pub network: &'a [u8],
     pub sheet: &'a [u8],
     pub entries: &'a [u16; ROWS],
-    pub ghost checked: { CheckedNetwork form network.now } by { network-prop form network.now },
-    pub ghost formed: { CheckedEntries form sheet_lead sheet.now } by { sheet-prop form sheet.now },
-    pub ghost noted: { EntryRows form sheet_lead network.now sheet.now entries.now } by { entry_rows-prop form network.now sheet.now entries.now },
+    pub ghost checked: { CheckedNetwork form network.now } by { network-prop },
+    pub ghost formed: { CheckedEntries form sheet_lead sheet.now } by { sheet-prop },
+    pub ghost noted: { EntryRows form sheet_lead network.now sheet.now entries.now } by { entry_rows-prop },
 }
 
 // Fragment k of such a network, by the fragment number of each row.
@@ -26,7 +26,7 @@ pub struct Fragment<'a> {
     pub entered: Entered<'a>,
     pub fragments: &'a [u8; ROWS],
     pub k: u8,
-    pub ghost numbered: { Numbered entered.form entered.network.now entered.sheet.now fragments.now } by { numbered-prop entered.form entered.network.now entered.sheet.now fragments.now },
+    pub ghost numbered: { Numbered entered.form entered.network.now entered.sheet.now fragments.now } by { numbered-prop },
 }
 
 // The wires of a network beside fragment k, whatever numbers its rows have: the row of each id says where a wire's ends are.
@@ -37,6 +37,6 @@ pub struct Wires<'a> {
     pub rows: &'a [u16; 65536],
     pub fragments: &'a [u8; ROWS],
     pub k: u8,
-    pub ghost checked: { CheckedNetwork form network.now } by { network-prop form network.now },
+    pub ghost checked: { CheckedNetwork form network.now } by { network-prop },
     pub ghost filled: { Filled form network.now rows.now } by { filled-prop form network.now rows.now },
 }

@@ -24,4 +24,4 @@ invariant_of-fragment c =
 pub cut_entered-requires : goal.cut_entered-requires
 cut_entered-requires c =
     let rows : c.from-n.result ≡ node_count c.args.network.now = search rules in
-    (search rules, search (cutting_17, rows))
+    record { filled = search rules; entered = search (cutting_17, rows) }

@@ -7,4 +7,4 @@ pub returns-then-first_inside-n : goal.returns-then-first_inside-n
 returns-then-first_inside-n c = record { answer = search (rules, cutting_18); buffer = search (rules, cutting_18) }
 
 pub cut_asked-requires : goal.cut_asked-requires
-cut_asked-requires c = (search rules, search rules, search (rules, cutting_18))
+cut_asked-requires c = record { filled = search rules; entered = (search rules, search (rules, cutting_18)) }

@@ -24,7 +24,7 @@ pub slice_bounds-lay_edge-end : goal.slice_bounds-lay_edge-end
 slice_bounds-lay_edge-end c = search (rules, laying, offsets)
 
 pub lay_edge-o-requires : goal.lay_edge-o-requires
-lay_edge-o-requires c = record { j_bound = (search rules, search rules, search (rules, edge_fits)) }
+lay_edge-o-requires c = record { j_bound = (search rules, search rules); room = search (rules, edge_fits) }
 
 pub overflow_add-o : goal.overflow_add-o
 overflow_add-o c = search (rules, laying, offsets)

@@ -21,7 +21,7 @@ pub slice_bounds-lay_node-end : goal.slice_bounds-lay_node-end
 slice_bounds-lay_node-end c = search (rules, laying)
 
 pub lay_node-o-requires : goal.lay_node-o-requires
-lay_node-o-requires c = record { notes = search rules; i_bound = (search rules, search (rules, node_fits)) }
+lay_node-o-requires c = record { notes = search rules; i_bound = search rules; room = search (rules, node_fits) }
 
 pub overflow_add-o : goal.overflow_add-o
 overflow_add-o c = search (rules, laying)

@@ -14,7 +14,7 @@ pub returns-then-out-size : goal.returns-then-out-size
 returns-then-out-size c = record { size = search recording; laid = search recording }
 
 pub lay_parts-requires : goal.lay_parts-requires
-lay_parts-requires c = record { notes = (search recording, search rules, search rules, search rules); fragment_parts = search recording }
+lay_parts-requires c = record { notes = search recording; filled = search rules; room = (search rules, search rules); fragment_parts = search recording }
 
 pub returns : goal.returns
 returns c = record { size = search recording; laid = search rules }
