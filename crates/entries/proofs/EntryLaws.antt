@@ -55,7 +55,7 @@ module _ (f : Form) (lead : ℕ) (b : List ℕ) (n : ℕ) where
   entry_start = climb_start _ _ _ n 7 (sym (entry_first f lead))
 
   module _ (i o low : ℕ) (c : Entering f lead b n i o low) where
-    pub entry_end : n ≤ i → i ≡ first_bad (entry_ok f lead b) n
+    pub entry_end : n ≤ i → n ≡ first_bad (entry_ok f lead b) n
     entry_end l = climb_end _ _ _ n i o low c l
 
     module _ (l : i < n) where

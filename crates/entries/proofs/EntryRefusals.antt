@@ -1,4 +1,5 @@
 -- Each answer of a check of a sheet or a list, from the tests that the code has made by then.
+use Rattle.std.proofs.Common.{None, Option, Result, Some}
 use Prim.Native.Nat.{ℕ, ◌+◌, ◌≤◌, ◌<◌}
 use mathlib.Core.Path.{◌≡◌, sym, ◌∙◌}
 use mathlib.Core.List.{List}
@@ -6,14 +7,12 @@ use lib.ListN.{length}
 use borrow.Author.Tests.{eq-eqb, ne_eqb, lt-ltb, le-ltb}
 use Rattle.lists.specs.First.{first_bad}
 use Rattle.numbers.specs.BigEndian.{u16_at, u32_at}
-use Rattle.layout.specs.declared.Check.{Check}
 use Rattle.layout.specs.declared.Form.{Form}
+use Rattle.layout.specs.declared.Refusal.{Refusal}
 use Rattle.entries.specs.Entries.{entries_from, entries_refusal, entry_ok}
 use Rattle.layout.specs.Layout.{entry_offset}
 use Rattle.lists.specs.Answer.{refused, given}
-use Rattle.layout.specs.declared.Formed.{Formed}
 use Rattle.layout.specs.Form.{formed}
-use Rattle.layout.specs.declared.Formed.TheVariants.{Unknown, Of}
 use Rattle.layout.proofs.OneForm.{unnamed, named_form}
 use Rattle.layout.specs.Refusals.{check_answer}
 
@@ -37,7 +36,7 @@ module _ (f : Form) (lead : ℕ) (b : List ℕ) (n : ℕ) (c : n ≡ u16_at b 5)
         unfolding entries_from
         body_behind l = rw (← c, le-ltb _ _ k, ← q, ← d, eq-eqb _ _ e, le-ltb _ _ g, lt-ltb _ _ l)
 
-        pub body_each : (a : Check) → length b ≤ t → check_answer a ≡ entries_from f lead b 6 → check_answer a ≡ entries_from f lead b 2
+        pub body_each : (a : Result Form Refusal) → length b ≤ t → check_answer a ≡ entries_from f lead b 6 → check_answer a ≡ entries_from f lead b 2
         unfolding entries_from
         body_each a h z = rw (← c, le-ltb _ _ k, ← q, ← d, eq-eqb _ _ e, le-ltb _ _ g, le-ltb _ _ h) (rw (← c) at z)
 
@@ -59,12 +58,12 @@ module _ (lead : ℕ) (b : List ℕ) where
   unfolding entries_refusal
   entries_short l = rw (lt-ltb _ _ l)
 
-  module _ (h : 7 ≤ length b) (g : Formed) (k : g ≡ formed b) where
-    pub entries_version : g ≡ Unknown → refused 12 4 ≡ entries_refusal lead b
+  module _ (h : 7 ≤ length b) (g : Option Form) (k : g ≡ formed b) where
+    pub entries_version : g ≡ None → refused 12 4 ≡ entries_refusal lead b
     unfolding entries_refusal
     entries_version e = rw (le-ltb _ _ h, unnamed b (sym e ∙ k))
 
-    pub entries_body : (f : Form) (r : Check) → g ≡ Of f → check_answer r ≡ entries_from f lead b 2 → check_answer r ≡ entries_refusal lead b
+    pub entries_body : (f : Form) (r : Result Form Refusal) → g ≡ Some f → check_answer r ≡ entries_from f lead b 2 → check_answer r ≡ entries_refusal lead b
     unfolding entries_refusal entries_from
     entries_body f r v e = let n = named_form b f (sym v ∙ k) in rw (le-ltb _ _ h, n.1, ← n.0) e
 

@@ -62,9 +62,5 @@ pub fn entry_near(form: Form, lead: usize, b: &[u8], near: usize, id: u16) -> us
 pub fn row_behind(near: usize, row: u16) -> usize
     ensures { result ≡ max near (row + 1) }
 {
-    let next = row as usize + 1;
-    if near < next {
-        return next;
-    }
-    near
+    near.max(usize::from(row) + 1)
 }

@@ -6,8 +6,7 @@ use lib.Dec.{eqb}
 use Rattle.lists.specs.Answer.{Answer, given, refused}
 use Rattle.lists.specs.Test.{first_applying}
 use Rattle.layout.specs.Refusals.{number_of, check_answer}
-use Rattle.layout.specs.declared.Check.{Check}
-use Rattle.layout.specs.declared.Check.TheVariants.{Fine, Refused}
+use Rattle.std.proofs.Common.{Result, Ok, Err}
 use Rattle.layout.specs.declared.Class.{Class}
 use Rattle.layout.specs.declared.Class.TheVariants.{Short, Version, Counts, Length, Behind, IllPolicy, IllNode, NoOwn, IllEdge, NoEdgeOut, EntriesShort, EntriesVersion, EntriesCount, EntriesLength, EntriesBehind, IllEntry, NoEntry, NoSuchOwn, NoteDiffers, NoRoom, OwnedByBoth, Unmatched, PoliciesDiffer, TooMany}
 use Rattle.layout.specs.declared.Form.{Form}
@@ -78,14 +77,14 @@ pub numbers_refusal : (r : Refusal) → refusal_of (number_of r.class) r.place �
 numbers_refusal r = λ i. record { class = number_class r.class i; place = r.place }
 
 -- what a check with this answer finds
-abbrev pub check_of : Answer Form → Check
-check_of (given f) = Fine f
-check_of (refused number place) = Refused (refusal_of number place)
+abbrev pub check_of : Answer Form → Result Form Refusal
+check_of (given f) = Ok f
+check_of (refused number place) = Err (refusal_of number place)
 
-pub answer_check : (c : Check) → check_of (check_answer c) ≡ c
-answer_check (Fine f) = refl
-answer_check (Refused r) = ap Refused (numbers_refusal r)
+pub answer_check : (c : Result Form Refusal) → check_of (check_answer c) ≡ c
+answer_check (Ok f) = refl
+answer_check (Err r) = ap Err (numbers_refusal r)
 
 -- a contract that gives the answer allows one check
-pub one_check : (a : Answer Form) (c d : Check) → check_answer c ≡ a → check_answer d ≡ a → c ≡ d
+pub one_check : (a : Answer Form) (c d : Result Form Refusal) → check_answer c ≡ a → check_answer d ≡ a → c ≡ d
 one_check a c d p q = sym (answer_check c) ∙ ap check_of (p ∙ sym q) ∙ answer_check d

@@ -8,7 +8,7 @@ use Rattle.lists.specs.Stride.{at}
 use Rattle.numbers.specs.BigEndian.{u16_at}
 use borrow.Author.Tests.{eq-eqb, ne_eqb}
 use Rattle.layout.specs.declared.Class.{Class}
-use Rattle.layout.specs.declared.Formed.TheVariants.{Of, Unknown}
+use Rattle.std.proofs.Common.{Some, None}
 use Rattle.layout.specs.declared.Form.{Form}
 use Rattle.layout.specs.Layout.{entry_offset, policy_offset, node_offset, edge_offset, node_part, total}
 use Rattle.layout.specs.Form.{node_width, entry_width, form_of, formed, versioned}
@@ -42,11 +42,11 @@ total_of f b n r c h = rw (← c) h
 
 -- the form by the version byte
 module _ (b : List ℕ) where
-  pub form_first : get_or b 4 0 ≡ 1 → Of (record { version = 1; route = 9; most = 512 }) ≡ formed b
+  pub form_first : get_or b 4 0 ≡ 1 → Some (record { version = 1; route = 9; most = 512 }) ≡ formed b
   unfolding formed form_of versioned
   form_first e = rw (eq-eqb (get_or b 4 0) 1 e)
 
-  pub form_unknown : (get_or b 4 0 ≡ 1 → ⊥) → Unknown ≡ formed b
+  pub form_unknown : (get_or b 4 0 ≡ 1 → ⊥) → None ≡ formed b
   unfolding formed form_of versioned
   form_unknown e = rw (ne_eqb (get_or b 4 0) 1 e)
 

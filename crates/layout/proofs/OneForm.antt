@@ -13,8 +13,7 @@ use lib.ListN.{get_or}
 use borrow.Author.Tests.{eq-eqb, eqb-true}
 use Rattle.layout.specs.Form.{version1, form_of, Known, Usable, formed, versioned}
 use Rattle.layout.specs.declared.Form.{Form}
-use Rattle.layout.specs.declared.Formed.TheVariants.{Of, Unknown}
-use Rattle.layout.specs.declared.Formed.{Formed}
+use Rattle.std.proofs.Common.{Option, Some, None}
 
 pub form_known : (b : List ℕ) → Known (form_of b)
 unfolding form_of Known
@@ -46,23 +45,23 @@ version_byte f b e = eqb-true (get_or b 4 0) f.version e
 
 -- what the version byte tells
 module _ (b : List ℕ) where
-  pub named_form : (f : Form) → Of f ≡ formed b → (f ≡ form_of b) × (versioned (form_of b) b ≡ true)
+  pub named_form : (f : Form) → Some f ≡ formed b → (f ≡ form_of b) × (versioned (form_of b) b ≡ true)
   unfolding formed
   named_form f e = go (versioned (form_of b) b) refl e
     where
-      go : (t : Bool) → versioned (form_of b) b ≡ t → Of f ≡ cond t (Of (form_of b)) Unknown → (f ≡ form_of b) × (versioned (form_of b) b ≡ true)
+      go : (t : Bool) → versioned (form_of b) b ≡ t → Some f ≡ cond t (Some (form_of b)) None → (f ≡ form_of b) × (versioned (form_of b) b ≡ true)
       go true q h = (cc, q)
       go false q h = absurd (let z : ◌≡◌ {A = ℕ} 0 1 = cc in omega arith)
 
   -- a form that the code was told can be used
-  pub told_usable : (g : Formed) (f : Form) → g ≡ formed b → g ≡ Of f → Usable f
+  pub told_usable : (g : Option Form) (f : Form) → g ≡ formed b → g ≡ Some f → Usable f
   told_usable g f k e = rw (named_form f (sym e ∙ k)).0 (form_usable b)
 
-  pub unnamed : Unknown ≡ formed b → versioned (form_of b) b ≡ false
+  pub unnamed : None ≡ formed b → versioned (form_of b) b ≡ false
   unfolding formed
   unnamed e = go (versioned (form_of b) b) refl e
     where
-      go : (t : Bool) → versioned (form_of b) b ≡ t → Unknown ≡ cond t (Of (form_of b)) Unknown → versioned (form_of b) b ≡ false
+      go : (t : Bool) → versioned (form_of b) b ≡ t → None ≡ cond t (Some (form_of b)) None → versioned (form_of b) b ≡ false
       go true q h = absurd (let z : ◌≡◌ {A = ℕ} 0 1 = cc in omega arith)
       go false q h = q
 

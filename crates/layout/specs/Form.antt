@@ -1,9 +1,7 @@
 -- What the version of a record decides: its version byte, the width of a route and the greatest number of nodes and of entries. All other
 -- widths follow.
-use Rattle.std.specs.Prelude.{ℕ, ◌+◌, ◌≤◌, ◌<◌, ◌≡◌, Bool, cond, List, eqb, get_or}
+use Rattle.std.specs.Prelude.{ℕ, ◌+◌, ◌≤◌, ◌<◌, ◌≡◌, Bool, cond, List, eqb, get_or, Option, Some, None}
 use Rattle.layout.specs.declared.Form.{Form}
-use Rattle.layout.specs.declared.Formed.{Formed}
-use Rattle.layout.specs.declared.Formed.TheVariants.{Of, Unknown}
 
 abbrev pub version1 : Form
 version1 = record { version = 1; route = 9; most = 512 }
@@ -21,8 +19,8 @@ unfoldable pub versioned : Form → List ℕ → Bool
 versioned f b = eqb (get_or b 4 0) f.version
 
 -- the form that a record's version byte names, if it names one
-unfoldable pub formed : List ℕ → Formed
-formed b = cond (versioned (form_of b) b) (Of (form_of b)) Unknown
+unfoldable pub formed : List ℕ → Option Form
+formed b = cond (versioned (form_of b) b) (Some (form_of b)) None
 
 -- the forms that records have
 unfoldable pub Known : Form → Type 0

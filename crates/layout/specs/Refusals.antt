@@ -1,8 +1,6 @@
 -- The numbers given back (document 01; 21 to 24 document 02): a number for each class of refusal, and what a refusal and a check say.
-use Rattle.std.specs.Prelude.{ℕ}
+use Rattle.std.specs.Prelude.{ℕ, Result, Ok, Err}
 use Rattle.lists.specs.Answer.{Answer, given, refused}
-use Rattle.layout.specs.declared.Check.{Check}
-use Rattle.layout.specs.declared.Check.TheVariants.{Fine, Refused}
 use Rattle.layout.specs.declared.Class.{Class}
 use Rattle.layout.specs.declared.Class.TheVariants.{Short, Version, Counts, Length, Behind, IllPolicy, IllNode, NoOwn, IllEdge, NoEdgeOut, EntriesShort, EntriesVersion, EntriesCount, EntriesLength, EntriesBehind, IllEntry, NoEntry, NoSuchOwn, NoteDiffers, NoRoom, OwnedByBoth, Unmatched, PoliciesDiffer, TooMany}
 use Rattle.layout.specs.declared.Form.{Form}
@@ -40,9 +38,9 @@ abbrev pub refusing : {A : Type 0} → Refusal → Answer A
 refusing r = refused (number_of r.class) r.place
 
 -- what a check of a record says: its form, or a refusal
-abbrev pub check_answer : Check → Answer Form
-check_answer (Fine f) = given f
-check_answer (Refused r) = refusing r
+abbrev pub check_answer : Result Form Refusal → Answer Form
+check_answer (Ok f) = given f
+check_answer (Err r) = refusing r
 
 -- the number of an answer: 0 where nothing is refused
 abbrev pub number_in : {A : Type 0} → Answer A → ℕ

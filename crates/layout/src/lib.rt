@@ -15,7 +15,6 @@ pub use offsets::{
     NODES_FIELD, POLICIES_FIELD, ROUTE_FIELD, SHEET_LEAD, VERSION_FIELD, edge_offset, entry_offset,
     node_offset, node_part, node_width, policy_offset, total_of,
 };
-pub use refusals::number_of;
 
 // What the version of a record decides: its version byte, the bytes of a route, and the greatest number of nodes and of
 // entries.
@@ -57,23 +56,10 @@ pub enum Class {
     TooMany,
 }
 
-// Why a call is refused, and where: the place is an offset, a length, an id, a number asked or a count, as the table has it.
+// Why a call is refused, and where: the place is an offset, a length, an id, a number asked or a count, as the table has it. It is the error
+// of every check and of every call that lays a record.
 #[derive(Clone, Copy)]
 pub struct Refusal {
     pub class: Class,
     pub place: usize,
-}
-
-// The form that a record's version byte names, if it names one.
-#[derive(Clone, Copy)]
-pub enum Formed {
-    Of(Form),
-    Unknown,
-}
-
-// What a check of a record finds: nothing, and the record has this form; or why it is refused.
-#[derive(Clone, Copy)]
-pub enum Check {
-    Fine(Form),
-    Refused(Refusal),
 }

@@ -157,8 +157,8 @@ pub fn no_own(form: Form, b: &[u8], n: usize) -> bool
     requires { Room form b.now × (n ≡ node_count b.now) }
     ensures { result ≡ ownless form b.now }
 {
-    for i in 0..n {
-        if is_own(form, b, i) {
+    for row in 0..n {
+        if is_own(form, b, row) {
             return false;
         }
     }

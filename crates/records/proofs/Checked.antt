@@ -4,6 +4,7 @@
 --     network_told, entries_told                          what a check that found nothing tells of the form
 --     network_checked, rows_checked, entries_checked      from what a check found
 --     one_told, together_checked                          two records that are taken together
+use Rattle.std.proofs.Common.{Ok, Result}
 use Prim.Native.Nat.{ℕ, ◌≤◌}
 use mathlib.Core.Path.{◌≡◌, refl, sym, ap, ◌∙◌}
 use mathlib.Core.List.{List}
@@ -21,9 +22,8 @@ use Rattle.records.proofs.Fine.{network_fine, fine_room}
 use Rattle.entries.proofs.Fine.{entries_fine, fine_entries_room, entry_ids_rise}
 use Rattle.records.proofs.RowLaws.{ids_rise, rows_fine}
 use Rattle.records.specs.Rows.{RowsAfter}
-use Rattle.layout.specs.declared.Check.{Check}
-use Rattle.layout.specs.declared.Check.TheVariants.{Fine}
 use Rattle.layout.specs.declared.Form.{Form}
+use Rattle.layout.specs.declared.Refusal.{Refusal}
 
 module _ (f : Form) (u : Usable f) where
   pub sound_checked : (network : List ℕ) → Bytes network → NetworkFine f network → CheckedNetwork f network
@@ -52,7 +52,7 @@ unfolding entries_refusal
 given_entries lead entries f g = g ∙ sym (first_given (entries_table (form_of entries) lead entries) (given (form_of entries)) f refl g).1
 
 -- a check that found nothing tells the record's form
-module _ (c : Check) (f : Form) (e : c ≡ Fine f) where
+module _ (c : Result Form Refusal) (f : Form) (e : c ≡ Ok f) where
   module _ (network : List ℕ) (h : check_answer c ≡ network_refusal network) where
     pub network_told : (form_of network ≡ f) × SoundRecord network
     network_told =
@@ -79,7 +79,7 @@ module _ (c : Check) (f : Form) (e : c ≡ Fine f) where
         rw (← entries_told.0) (formed_checked (form_of entries) (form_usable entries) lead entries led small (entries_fine lead entries entries_told.1))
 
 -- Two records that are taken together have one form: the entries are checked by the network's.
-module _ (c d : Check) (f g : Form) (e : c ≡ Fine f) (q : d ≡ Fine g) (network : List ℕ) (h : check_answer c ≡ network_refusal network) (lead : ℕ) (entries : List ℕ)
+module _ (c d : Result Form Refusal) (f g : Form) (e : c ≡ Ok f) (q : d ≡ Ok g) (network : List ℕ) (h : check_answer c ≡ network_refusal network) (lead : ℕ) (entries : List ℕ)
     (k : check_answer d ≡ entries_refusal lead entries) where
   pub one_told : form_of entries ≡ f
   one_told = one_form entries network ∙ (network_told c f e network h).0

@@ -76,11 +76,11 @@ module _ (f : Form) (lead : ℕ) (network entries : List ℕ) (n : ℕ) (table�
   placing_start m p q = record { within = omega arith; nodes = p ∙ q; passed = passed_none _; filled = after_none (with_entry f lead network entries) table₀ }
 
   module _ (i : ℕ) (table : List ℕ) (h : Placing f lead network entries n i table₀ table) where
-    pub placing_end : n ≤ i → i ≡ first_bad (entered f lead network entries) (node_count network)
-    placing_end l = let e = h.nodes in passed_end _ (node_count network) i (omega arith) (let w = h.within in omega arith) h.passed
+    pub placing_end : n ≤ i → n ≡ first_bad (entered f lead network entries) (node_count network)
+    placing_end l = let e = h.nodes in e ∙ passed_end _ (node_count network) i (omega arith) (let w = h.within in omega arith) h.passed
 
-    pub placing_table : table ≡ table_after (with_entry f lead network entries) i table₀
-    placing_table = h.filled
+    pub placing_table : n ≤ i → table ≡ table_after (with_entry f lead network entries) n table₀
+    placing_table l = let w = h.within in let all : i ≡ n = omega arith in rw all at h.filled
 
     module _ (l : i < n) where
       pub placing_row : i < node_count network

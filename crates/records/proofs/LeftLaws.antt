@@ -130,11 +130,11 @@ module _ (f : Form) (b : List ℕ) (n : ℕ) (left₀ : List ℕ) where
   edging_start o e = record { walk = walk_start _ _ n o e; floor = least_start _; marks = after_none (marked_by f b any_edge) left₀ }
 
   module _ (j o low : ℕ) (left : List ℕ) (c : Edging f b n j o low left₀ left) where
-    pub edging_end : n ≤ j → j ≡ first_bad (edge_ok f b) n
+    pub edging_end : n ≤ j → n ≡ first_bad (edge_ok f b) n
     edging_end l = walk_end _ _ n j o c.walk l
 
-    pub edging_marks : left ≡ table_after (marked_by f b any_edge) j left₀
-    edging_marks = c.marks
+    pub edging_marks : n ≤ j → left ≡ table_after (marked_by f b any_edge) n left₀
+    edging_marks l = let w = c.walk.within in let all : j ≡ n = omega arith in rw all at c.marks
 
     pub edging_bad : j < n → edge_ok f b j ≡ false → j ≡ first_bad (edge_ok f b) n
     edging_bad l e = walk_bad _ _ n j o c.walk l e
@@ -198,7 +198,7 @@ module _ (f : Form) (b : List ℕ) where
   left_start = passed_none _
 
   module _ (i n : ℕ) (h : Left i) where
-    pub left_end : n ≤ i → i ≤ n → i ≡ first_bad (input_ok f b) n
+    pub left_end : n ≤ i → i ≤ n → n ≡ first_bad (input_ok f b) n
     unfolding Left
     left_end l m = passed_end _ n i l m h
 

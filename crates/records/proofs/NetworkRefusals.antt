@@ -4,6 +4,7 @@
 --     nodes, nodes_.., parts_..       numbers 6 to 8, and on
 --     many, counts, few_nodes         numbers 3 to 5, and on
 --     network                         numbers 1 and 2, and on
+use Rattle.std.proofs.Common.{None, Option, Result, Some}
 use Prim.Native.Nat.{ℕ, ◌+◌, ◌≤◌, ◌<◌}
 use native.Mathlib.Omega.{arith}
 use mathlib.Core.Path.{◌≡◌, sym, ◌∙◌}
@@ -27,11 +28,9 @@ use Rattle.nodes.specs.Policy.{policy_ok}
 use Rattle.records.specs.Network.{many_parts, bad_policy, bad_node, bad_edge, bad_input, network_from, network_refusal}
 use Rattle.lists.specs.Answer.{refused, given}
 use Rattle.layout.specs.Refusals.{check_answer}
-use Rattle.layout.specs.declared.Check.{Check}
 use Rattle.layout.specs.declared.Form.{Form}
-use Rattle.layout.specs.declared.Formed.{Formed}
+use Rattle.layout.specs.declared.Refusal.{Refusal}
 use Rattle.layout.specs.Form.{formed, form_of}
-use Rattle.layout.specs.declared.Formed.TheVariants.{Unknown, Of}
 use Rattle.layout.proofs.OneForm.{unnamed, named_form}
 
 module _ (f : Form) (b : List ℕ) where
@@ -41,7 +40,7 @@ module _ (f : Form) (b : List ℕ) where
     wires_edge o l q = rw (← c, ← p, lt-ltb _ _ l, ← q)
 
     module _ (l : e ≤ bad) where
-      pub wires_inputs : (a : Check) → check_answer a ≡ network_from f b 10 → check_answer a ≡ network_from f b 9
+      pub wires_inputs : (a : Result Form Refusal) → check_answer a ≡ network_from f b 10 → check_answer a ≡ network_from f b 9
       unfolding network_from
       wires_inputs a z = let edges : ltb (bad_edge f b) (edge_count b) ≡ false = rw (← c, ← p) (le-ltb _ _ l) in rw edges z
 
@@ -55,7 +54,7 @@ module _ (f : Form) (b : List ℕ) where
     inputs_fine m = rw (← d, ← q, le-ltb _ _ m)
 
   -- numbers 9 and 10 leave the table filled
-  pub wires_table : (r : Check) (before after : List ℕ) → check_answer r ≡ network_from f b 9 → Filled f b after → RowsAfter f b r before after
+  pub wires_table : (r : Result Form Refusal) (before after : List ℕ) → check_answer r ≡ network_from f b 9 → Filled f b after → RowsAfter f b r before after
   unfolding network_from
   wires_table r before after e h = go (ltb (bad_edge f b) (edge_count b)) (ltb (bad_input f b) (node_count b)) e
     where
@@ -74,7 +73,7 @@ module _ (f : Form) (b : List ℕ) where
       unfolding network_from
       nodes_ownless part y e = rw (e, ← d, ← r, le-ltb _ _ m, ← o, y)
 
-      pub nodes_wires : (a : Check) → t ≡ false → check_answer a ≡ network_from f b 9 → check_answer a ≡ network_from f b 7
+      pub nodes_wires : (a : Result Form Refusal) → t ≡ false → check_answer a ≡ network_from f b 9 → check_answer a ≡ network_from f b 7
       unfolding network_from
       nodes_wires a y e =
           let nodes : ltb (bad_node f b) (node_count b) ≡ false = rw (← d, ← r) (le-ltb _ _ m) in
@@ -90,7 +89,7 @@ module _ (f : Form) (b : List ℕ) where
       unfolding network_from
       parts_policy o l e = rw (← c, ← q, lt-ltb _ _ l, ← e)
 
-      pub parts_nodes : (a : Check) → p ≤ bad → check_answer a ≡ network_from f b 7 → check_answer a ≡ network_from f b 6
+      pub parts_nodes : (a : Result Form Refusal) → p ≤ bad → check_answer a ≡ network_from f b 7 → check_answer a ≡ network_from f b 6
       unfolding network_from
       parts_nodes a l e = let policies : ltb (bad_policy f b) (policy_count b) ≡ false = rw (← c, ← q) (le-ltb _ _ l) in rw policies e
 
@@ -146,7 +145,7 @@ module _ (f : Form) (b : List ℕ) where
           unfolding network_from
           counts_behind l = rw (← c, y, ← q, ← d, eq-eqb _ _ x, le-ltb _ _ g, lt-ltb _ _ l)
 
-          pub counts_parts : (a : Check) → length b ≤ t → check_answer a ≡ network_from f b 6 → check_answer a ≡ network_from f b 2
+          pub counts_parts : (a : Result Form Refusal) → length b ≤ t → check_answer a ≡ network_from f b 6 → check_answer a ≡ network_from f b 2
           unfolding network_from
           counts_parts a l e = rw (← c, y, ← q, ← d, eq-eqb _ _ x, le-ltb _ _ g, le-ltb _ _ l) e
 
@@ -159,17 +158,17 @@ module _ (b : List ℕ) where
   unfolding network_refusal
   network_short l = rw (lt-ltb _ _ l)
 
-  module _ (h : 10 ≤ length b) (g : Formed) (k : g ≡ formed b) where
-    pub network_version : g ≡ Unknown → refused 2 4 ≡ network_refusal b
+  module _ (h : 10 ≤ length b) (g : Option Form) (k : g ≡ formed b) where
+    pub network_version : g ≡ None → refused 2 4 ≡ network_refusal b
     unfolding network_refusal
     network_version e = rw (le-ltb _ _ h, unnamed b (sym e ∙ k))
 
-    pub network_counts : (f : Form) (r : Check) → g ≡ Of f → check_answer r ≡ network_from f b 2 → check_answer r ≡ network_refusal b
+    pub network_counts : (f : Form) (r : Result Form Refusal) → g ≡ Some f → check_answer r ≡ network_from f b 2 → check_answer r ≡ network_refusal b
     unfolding network_refusal network_from
     network_counts f r v e = let n = named_form b f (sym v ∙ k) in rw (le-ltb _ _ h, n.1, ← n.0) e
 
     -- the table is that of the record's own form
-    pub rows_formed : (f : Form) (r : Check) (before after : List ℕ) → g ≡ Of f → RowsAfter f b r before after → RowsAfter (form_of b) b r before after
+    pub rows_formed : (f : Form) (r : Result Form Refusal) (before after : List ℕ) → g ≡ Some f → RowsAfter f b r before after → RowsAfter (form_of b) b r before after
     rows_formed f r before after v e = rw (← (named_form b f (sym v ∙ k)).0) e
 
 pub ruleset network = (network_short, network_version, network_counts)

@@ -4,6 +4,7 @@
 --     rows_fine                      the table after a check that found nothing
 --     rows_read                      the row of an id by the table, as the code reads it
 --     filled_once, rows_after_once   there is one filled table, and one table after a check
+use Rattle.std.proofs.Common.{Ok, Result}
 use Prim.Native.Nat.{ℕ, ◌+◌, ◌<◌, ◌≤◌, ◌-◌}
 use native.Mathlib.Omega.{arith}
 use mathlib.Core.Path.{◌≡◌, refl, sym, ◌∙◌}
@@ -21,9 +22,8 @@ use Rattle.layout.specs.Layout.{node_count, Room}
 use Rattle.nodes.specs.Node.{node_id, node_ok, row_of}
 use Rattle.records.specs.Edge.{boxed}
 use Rattle.records.specs.Rows.{row_mark, Filled, FilledOrKept, RowsAfter, past_nodes}
-use Rattle.layout.specs.declared.Check.{Check}
-use Rattle.layout.specs.declared.Check.TheVariants.{Fine}
 use Rattle.layout.specs.declared.Form.{Form}
+use Rattle.layout.specs.declared.Refusal.{Refusal}
 use Rattle.layout.specs.Refusals.{check_answer}
 
 module _ (f : Form) (b : List ℕ) where
@@ -78,11 +78,11 @@ unfolding Filled
 filled_once f b r s p q h k = ext_get_or 0 r s (p ∙ sym q) (λ i l. h i (omega arith) ∙ sym (k i (omega arith)))
 
 -- a check that found nothing left the table filled
-pub rows_fine : (f : Form) (b : List ℕ) (g : Form) (c : Check) (before after : List ℕ) → c ≡ Fine g → RowsAfter f b c before after → Filled f b after
+pub rows_fine : (f : Form) (b : List ℕ) (g : Form) (c : Result Form Refusal) (before after : List ℕ) → c ≡ Ok g → RowsAfter f b c before after → Filled f b after
 rows_fine f b g c before after e h = rw e at h
 
 -- a contract that gives the table after a check allows one
-pub rows_after_once : (f : Form) (b : List ℕ) (c : Check) (before r s : List ℕ) → length r ≡ 65536 → length s ≡ 65536
+pub rows_after_once : (f : Form) (b : List ℕ) (c : Result Form Refusal) (before r s : List ℕ) → length r ≡ 65536 → length s ≡ 65536
     → RowsAfter f b c before r → RowsAfter f b c before s → r ≡ s
 rows_after_once f b c before r s p q = go (past_nodes (check_answer c))
   where

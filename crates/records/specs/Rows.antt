@@ -1,11 +1,11 @@
 -- The tables by which a network is read in one pass: from ids to rows, and from rows to whether an edge leaves them.
-use Rattle.std.specs.Prelude.{ℕ, ◌+◌, ◌<◌, ◌≡◌, Bool, true, false, cond, not, ◌&&◌, List, ltb, eqb, get_or, set}
+use Rattle.std.specs.Prelude.{ℕ, ◌+◌, ◌<◌, ◌≡◌, Bool, true, false, cond, not, ◌&&◌, List, ltb, eqb, get_or, set, Result}
 use Rattle.lists.specs.First.{every}
 use Rattle.layout.specs.Layout.{Room, node_count}
 use Rattle.nodes.specs.Node.{node_id, row_of}
 use Rattle.records.specs.Edge.{edge_from, edge_key, boxed, edge_ok}
-use Rattle.layout.specs.declared.Check.{Check}
 use Rattle.layout.specs.declared.Form.{Form}
+use Rattle.layout.specs.declared.Refusal.{Refusal}
 use Rattle.lists.specs.Answer.{Answer, given, refused}
 use Rattle.layout.specs.Refusals.{check_answer}
 
@@ -50,5 +50,5 @@ module _ (f : Form) (b : List ℕ) where
   FilledOrKept false before after = after ≡ before
 
   -- the first table after a check, from what it held before: it is filled where none of 1 to 8 applies
-  abbrev pub RowsAfter : Check → List ℕ → List ℕ → Type 0
+  abbrev pub RowsAfter : Result Form Refusal → List ℕ → List ℕ → Type 0
   RowsAfter c = FilledOrKept (past_nodes (check_answer c))

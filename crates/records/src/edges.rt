@@ -10,7 +10,7 @@ ghost use Rattle.nodes.specs.Node.{node_id, row_of};
 ghost use Rattle.records.specs.Rows.{Tabled, key_after, marked_by, Marked, any_edge};
 
 use crate::rows::row_in;
-use layout::{Form, POLICIES_FIELD, ROWS, edge_offset};
+use layout::{EDGE_WIDTH, Form, POLICIES_FIELD, ROWS, edge_offset};
 use nodes::is_own;
 use numbers::u16_at;
 
@@ -102,18 +102,16 @@ pub fn bad_edge(form: Form, b: &[u8], rows: &[u16; 65536], left: &mut [u8; ROWS]
     ensures bad { result ≡ first_bad (edge_ok form b.now) n }
     ensures marks { left.new ≡ table_after (marked_by form b.now any_edge) result left.old }
 {
-    let mut j = 0;
     let mut o = edge_offset(form, b, 0);
     let mut low = 0;
-    while j < n {
+    for j in 0..n {
         low = read_edge(form, b, rows, left, j, o, low);
         if low == 0 {
             return j;
         }
-        o += 5;
-        j += 1;
+        o += EDGE_WIDTH;
     }
-    j
+    n
 }
 
 // Whether the i-th node is an own one, or an input that an edge leaves.
@@ -132,12 +130,10 @@ pub fn bad_input(form: Form, b: &[u8], left: &[u8; ROWS], n: usize) -> usize
     requires { Room form b.now × (n ≡ node_count b.now) × Marked form b.now any_edge (edge_count b.now) left.now }
     ensures { result ≡ first_bad (input_ok form b.now) n }
 {
-    let mut i = 0;
-    while i < n {
+    for i in 0..n {
         if !input_left(form, b, left, i) {
             return i;
         }
-        i += 1;
     }
-    i
+    n
 }

@@ -10,7 +10,7 @@ ghost use Rattle.entries.specs.Entries.{entry_id};
 use entries::{entry_near, row_behind};
 use layout::{ENTRIES_FIELD, Form, NODES_FIELD, ROWS};
 use nodes::{is_own, node_id};
-use numbers::{u16_at, wide16};
+use numbers::u16_at;
 
 // Stores the row of the entry for the node in row i, where it is an own one with an entry, which is looked for first in the
 // row near. Answers whether it is no own one, or has an entry.
@@ -32,7 +32,7 @@ fn place_entry(
         return true;
     }
     let row = entry_near(form, lead, entries, near, node_id(form, network, i));
-    if wide16(u16_at(entries, ENTRIES_FIELD)) <= row {
+    if usize::from(u16_at(entries, ENTRIES_FIELD)) <= row {
         return false;
     }
     found[i] = row as u16;
@@ -53,15 +53,13 @@ pub fn place_entries(
     ensures first { result ≡ first_bad (entered form lead network.now entries.now) (node_count network.now) }
     ensures table { found.new ≡ table_after (with_entry form lead network.now entries.now) result found.old }
 {
-    let n = wide16(u16_at(network, NODES_FIELD));
-    let mut i = 0;
+    let n = usize::from(u16_at(network, NODES_FIELD));
     let mut near = 0;
-    while i < n {
+    for i in 0..n {
         if !place_entry(form, lead, network, entries, found, i, near) {
             return i;
         }
         near = row_behind(near, found[i]);
-        i += 1;
     }
-    i
+    n
 }

@@ -7,7 +7,7 @@ ghost use Rattle.records.specs.Rows.{Filled};
 
 use layout::{Form, NODES_FIELD};
 use nodes::node_id;
-use numbers::{u16_at, wide16};
+use numbers::u16_at;
 
 // Fills a table of zeros: at an id one more than the row of the node with that id, or 0 where no node has it. Rows are entered from
 // the last to the first, so that of two nodes with one id the first stays.
@@ -29,5 +29,5 @@ pub fn row_in(form: Form, b: &[u8], rows: &[u16; 65536], id: u16) -> usize
     ensures is { result ≡ row_of form b.now id }
     ensures within { (result < node_count b.now) × (result < 1024) }
 {
-    wide16(rows[id as usize]) - 1
+    usize::from(rows[id as usize]) - 1
 }

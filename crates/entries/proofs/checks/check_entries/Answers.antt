@@ -19,8 +19,8 @@ check_body-requires c = search (rules, entries, told_usable)
 pub enum_told-1 : goal.enum_told-1
 enum_told-1 c = search (rules, entries)
 
-pub returns-in-Of : goal.returns-in-Of
-returns-in-Of c = search (rules, entries)
+pub returns-in_default : goal.returns-in_default
+returns-in_default c = search (rules, entries)
 
-pub returns-in-Unknown : goal.returns-in-Unknown
-returns-in-Unknown c = search (rules, entries)
+pub returns : goal.returns
+returns c = search (rules, entries)

@@ -5,8 +5,8 @@ use Rattle.records.proofs.entered.place_entries.Goals as goal
 pub u16_at-requires : goal.u16_at-requires
 u16_at-requires c = search (rules, placing)
 
-pub wide16-n-requires : goal.wide16-n-requires
-wide16-n-requires c = search (rules, placing)
+pub from-n-requires : goal.from-n-requires
+from-n-requires c = search (rules, placing)
 
 pub loop-i-init : goal.loop-i-init
 loop-i-init c = search (rules, placing)
@@ -25,9 +25,6 @@ bounds-found-i c = search (rules, placing)
 
 pub row_behind-near-requires : goal.row_behind-near-requires
 row_behind-near-requires c = search (rules, placing)
-
-pub overflow_add-i : goal.overflow_add-i
-overflow_add-i c = search (rules, placing)
 
 pub loop-i-smaller : goal.loop-i-smaller
 loop-i-smaller c = search (rules, placing)

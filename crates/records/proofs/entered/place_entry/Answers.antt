@@ -18,11 +18,11 @@ entry_near-row-requires c = search (rules, placing_one)
 pub u16_at-requires : goal.u16_at-requires
 u16_at-requires c = search (rules, placing_one)
 
-pub wide16-requires : goal.wide16-requires
-wide16-requires c = search (rules, placing_one)
+pub from-requires : goal.from-requires
+from-requires c = search (rules, placing_one)
 
-pub returns-then-wide16-row : goal.returns-then-wide16-row
-returns-then-wide16-row c = search (rules, placing_one)
+pub returns-then-from-row : goal.returns-then-from-row
+returns-then-from-row c = search (rules, placing_one)
 
 pub overflow_cast-found : goal.overflow_cast-found
 overflow_cast-found c = search (rules, placing_one)

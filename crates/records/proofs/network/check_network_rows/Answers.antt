@@ -20,8 +20,8 @@ check_counts-requires c = search (rules, told_usable)
 pub enum_told-1 : goal.enum_told-1
 enum_told-1 c = search (rules, network)
 
-pub returns-in-Of : goal.returns-in-Of
-returns-in-Of c = record { numbers = search network_counts; table = search rows_formed }
+pub returns : goal.returns
+returns c = record { numbers = search network_counts; table = search rows_formed }
 
-pub returns-in-Unknown : goal.returns-in-Unknown
-returns-in-Unknown c = record { numbers = search network_version; table = refl }
+pub returns-in_default : goal.returns-in_default
+returns-in_default c = record { numbers = search network_version; table = refl }

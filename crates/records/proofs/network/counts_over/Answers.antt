@@ -24,8 +24,8 @@ returns-then-u16_at-gt-MOST_EDGES c = search (rules, many)
 pub bounds-b-9 : goal.bounds-b-9
 bounds-b-9 c = search (rules, many)
 
-pub wide-requires : goal.wide-requires
-wide-requires c = search (rules, many)
+pub from-requires : goal.from-requires
+from-requires c = search (rules, many)
 
 pub returns : goal.returns
 returns c = search (rules, many)

@@ -9,8 +9,8 @@ offset_bounds-rows-id c = search (rules, rows_read)
 pub bounds-rows-id : goal.bounds-rows-id
 bounds-rows-id c = search (rules, rows_read)
 
-pub wide16-requires : goal.wide16-requires
-wide16-requires c = search (rules, rows_read)
+pub from-requires : goal.from-requires
+from-requires c = search (rules, rows_read)
 
 pub overflow_sub-result : goal.overflow_sub-result
 overflow_sub-result c = search (rules, rows_read)

@@ -1,6 +1,6 @@
 -- Each class has its number by the definition (number_is).
 use Rattle.layout.proofs.CodeLaws.{number_is}
-use Rattle.layout.proofs.refusals.number_of.Goals as goal
+use Rattle.layout.proofs.refusals.U8FromClass.from.Goals as goal
 
 pub returns-in-Short : goal.returns-in-Short
 returns-in-Short c = search number_is
