@@ -11,6 +11,7 @@ use native.Mathlib.Omega.{arith}
 use lib.Dec.{eqb, leb}
 use lib.ListN.{length}
 use borrow.Author.Tests.{eq-eqb, ne_eqb, not-true}
+use Rattle.std.specs.Prelude.{Result, Ok, Err}
 use Rattle.lists.specs.Laid.{placed}
 use Rattle.lists.specs.Answer.{Answer, given, refused, and_then}
 use Rattle.lists.proofs.Answer.{first_meets}
@@ -28,11 +29,9 @@ use Rattle.lines.proofs.Lengths.{refused_length}
 use Rattle.outcomes.specs.Outcomes.{outcome_of}
 use Rattle.outcomes.specs.Room.{record_answer, laid_answer}
 use Rattle.outcomes.specs.Text.{record_output, outcome_length, outcome_placed}
-use Rattle.outcomes.specs.declared.Outcome.{Outcome}
-use Rattle.outcomes.specs.declared.Outcome.TheVariants.{Done, Refused}
 
-module _ (a : Outcome) (out : List ℕ) where
-  module _ (n : ℕ) (e : a ≡ Done n) where
+module _ (a : Result ℕ Refusal) (out : List ℕ) where
+  module _ (n : ℕ) (e : a ≡ Ok n) where
     pub done_count : n ≡ outcome_length (outcome_of a)
     unfolding outcome_length
     done_count = rw e
@@ -41,7 +40,7 @@ module _ (a : Outcome) (out : List ℕ) where
     unfolding outcome_placed
     done_placed = rw e
 
-  module _ (r : Refusal) (e : a ≡ Refused r) (m : ℕ) (number : m ≡ number_of r.class) where
+  module _ (r : Refusal) (e : a ≡ Err r) (m : ℕ) (number : m ≡ number_of r.class) where
     module _ (t : m ≡ 20) where
       pub room_count : r.place ≡ outcome_length (outcome_of a)
       unfolding outcome_length

@@ -3,25 +3,23 @@ ghost use Rattle.std.specs.Prelude.{◌≡◌};
 ghost use Rattle.outcomes.specs.Outcomes.{outcome_of};
 ghost use Rattle.outcomes.specs.Text.{outcome_length, outcome_placed};
 
-use crate::Outcome;
-use layout::number_of;
+use layout::{Refusal, number_of};
 use lines::{Line, place_line};
-use numbers::wide;
 
 // Places the line of a refusal at the start of out where it fits, and answers its length. A record that is there, and one that had no
 // room, is answered by its length.
-pub fn place_outcome(outcome: Outcome, out: &mut [u8]) -> usize
+pub fn place_outcome(outcome: Result<usize, Refusal>, out: &mut [u8]) -> usize
     ensures count { result ≡ outcome_length (outcome_of outcome) }
     ensures text { out.new ≡ outcome_placed (outcome_of outcome) out.old }
 {
     match outcome {
-        Outcome::Done(length) => length,
-        Outcome::Refused(refusal) => {
+        Ok(length) => length,
+        Err(refusal) => {
             let class = refusal.class;
             let place = refusal.place;
             match number_of(class) {
                 20 => place,
-                number => place_line(Line::Refused(wide(number), place), out),
+                number => place_line(Line::Refused(usize::from(number), place), out),
             }
         }
     }

@@ -2,8 +2,8 @@
 use Rattle.outcomes.proofs.TextLaws.{outcome_lines}
 use Rattle.outcomes.proofs.text.place_outcome.Goals as goal
 
-pub returns-in-Done : goal.returns-in-Done
-returns-in-Done c = record { count = search outcome_lines; text = search outcome_lines }
+pub returns-in-Ok : goal.returns-in-Ok
+returns-in-Ok c = record { count = search outcome_lines; text = search outcome_lines }
 
 pub returns-in-20 : goal.returns-in-20
 returns-in-20 c = record { count = search outcome_lines; text = search outcome_lines }
