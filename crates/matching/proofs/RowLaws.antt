@@ -17,7 +17,7 @@ use mir.Val.{Fits, bool_byte}
 use borrow.Author.Tests.{not-true, not-false, eqb-true, eqb-false}
 use Rattle.lists.specs.First.{first_bad}
 use Rattle.lists.specs.Gather.{count}
-use Rattle.lists.proofs.Gather.{count_none, count_next, count_le}
+use Rattle.lists.proofs.Gather.{count_none, count_next, count_le, count_one, count_most}
 use Rattle.lists.proofs.Walk.{Seek, seek_end}
 use Rattle.routes.specs.Carry.{highest}
 use Rattle.routes.specs.Form.{route_at}
@@ -148,15 +148,11 @@ module _ (f : Form) (a b : List ℕ) (n : ℕ) where
     sharing_end m l p q = let e : i ≡ node_count a = let w = s.within in omega arith in s.counts ∙ ap (count (in_other f a b)) e
 
     module _ (l : i < n) (t : Bool) (one : ℕ) (q : t ≡ in_other f a b i) (e : one ≡ bool_byte t) where
-      one_if : (u : Bool) → (bool_byte u ≡ cond u 1 0) × (bool_byte u ≤ 1)
-      one_if true = (refl, omega arith)
-      one_if false = (refl, omega arith)
-
       pub sharing_fits : (m : ℕ) → n ≡ m → m < 65536 → Fits w64 (so_far + one)
-      sharing_fits m p g = let h = (one_if t).1 in let w = s.counts in omega (arith, count_le (in_other f a b) i)
+      sharing_fits m p g = let h = count_most t in let w = s.counts in omega (arith, count_le (in_other f a b) i)
 
       pub sharing_next : Sharing f a b n (i + 1) (so_far + one)
-      sharing_next = record { within = omega arith; counts = rw (s.counts, e, (one_if t).0, q) (sym (count_next (in_other f a b) i)) }
+      sharing_next = record { within = omega arith; counts = rw (s.counts, e, count_one t, q) (sym (count_next (in_other f a b) i)) }
 
 -- a row of the loop is one of the record's
 pub row_in : (i n m c : ℕ) → i < n → n ≡ m → m ≡ c → i < c
