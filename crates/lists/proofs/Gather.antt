@@ -40,25 +40,25 @@ joined_within run i (suc n) l = ⊎_elim
     (λ (k : i < suc n). let h = joined_within run i n (omega arith) in omega (arith, length-append (joined run n) (run n)))
     (eq-or-lt_of_le l)
 
-module _ (step : ℕ → List ℕ → List ℕ) (table : List ℕ) where
+module _ {A : Type 0} (step : ℕ → List A → List A) (table : List A) where
   pub after_none : table ≡ table_after step 0 table
   unfolding table_after
   after_none = refl
 
-  pub after_next : (i : ℕ) (before after : List ℕ) → before ≡ table_after step i table → after ≡ step i before → after ≡ table_after step (i + 1) table
+  pub after_next : (i : ℕ) (before after : List A) → before ≡ table_after step i table → after ≡ step i before → after ≡ table_after step (i + 1) table
   unfolding table_after
   after_next i before after e d = rw (add-one i, ← e) d
 
-  pub after_long : ((i : ℕ) (t : List ℕ) → length (step i t) ≡ length t) → (n : ℕ) → length (table_after step n table) ≡ length table
+  pub after_long : ((i : ℕ) (t : List A) → length (step i t) ≡ length t) → (n : ℕ) → length (table_after step n table) ≡ length table
   unfolding table_after
   after_long h zero = refl
   after_long h (suc n) = h n (table_after step n table) ∙ after_long h n
 
   -- each step stores at its own place
-  module _ (P : ℕ → ℕ → Type 0) (long : (i : ℕ) (t : List ℕ) → length (step i t) ≡ length t)
-      (kept : (i : ℕ) (t : List ℕ) (k : ℕ) → k < i → get_or (step i t) k 0 ≡ get_or t k 0) where
-    pub after_rows : (n : ℕ) → ((i : ℕ) → i < n → (t : List ℕ) → length t ≡ length table → P i (get_or (step i t) i 0))
-        → (k : ℕ) → k < n → P k (get_or (table_after step n table) k 0)
+  module _ (P : ℕ → A → Type 0) (empty : A) (long : (i : ℕ) (t : List A) → length (step i t) ≡ length t)
+      (kept : (i : ℕ) (t : List A) (k : ℕ) → k < i → get_or (step i t) k empty ≡ get_or t k empty) where
+    pub after_rows : (n : ℕ) → ((i : ℕ) → i < n → (t : List A) → length t ≡ length table → P i (get_or (step i t) i empty))
+        → (k : ℕ) → k < n → P k (get_or (table_after step n table) k empty)
     unfolding table_after
     after_rows zero h k l = absurd (omega arith)
     after_rows (suc n) h k l = ⊎_elim
@@ -67,12 +67,12 @@ module _ (step : ℕ → List ℕ → List ℕ) (table : List ℕ) where
         (eq-or-lt_of_le (le_of_suc-le-suc l))
 
 -- a table that is stored place by place
-pub after_stored : (value : ℕ → ℕ) (table : List ℕ) (n : ℕ) → n ≤ length table → (k : ℕ) → k < n → get_or (table_after (λ i t. set t i (value i)) n table) k 0 ≡ value k
-after_stored value table n m = after_rows (λ i t. set t i (value i)) table (λ k v. v ≡ value k)
+pub after_stored : {A : Type 0} → (value : ℕ → A) (empty : A) (table : List A) (n : ℕ) → n ≤ length table → (k : ℕ) → k < n → get_or (table_after (λ i t. set t i (value i)) n table) k empty ≡ value k
+after_stored value empty table n m = after_rows (λ i t. set t i (value i)) table (λ k v. v ≡ value k) empty
     (λ i t. length-set t i (value i))
-    (λ i t k l. get_or-set_other t i k (value i) 0 (λ e. omega arith))
+    (λ i t k l. get_or-set_other t i k (value i) empty (λ e. omega arith))
     n
-    (λ i l t e. get_or-set_same t i (value i) 0 (omega arith))
+    (λ i l t e. get_or-set_same t i (value i) empty (omega arith))
 
 pub count_none : (test : ℕ → Bool) → 0 ≡ count test 0
 unfolding count

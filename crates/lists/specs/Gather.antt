@@ -18,7 +18,7 @@ count test zero = 0
 count test (suc n) = count test n + cond (test n) 1 0
 
 -- a table after the steps of the places below n
-unfoldable pub table_after : (ℕ → List ℕ → List ℕ) → ℕ → List ℕ → List ℕ
+unfoldable pub table_after : {A : Type 0} → (ℕ → List A → List A) → ℕ → List A → List A
 table_after step zero table = table
 table_after step (suc n) table = step n (table_after step n table)
 

@@ -147,4 +147,4 @@ module _ (f : Form) (network list : List ℕ) where
   stands_hold stands h e i l =
       let few = h.room.few in
       let most = h.room.usable.few in
-      rw e (after_stored (stand_of f network list) (replicate 1024 0) (node_count network) (omega (arith, length-replicate {A = ℕ} 1024 0)) i l)
+      rw e (after_stored (stand_of f network list) 0 (replicate 1024 0) (node_count network) (omega (arith, length-replicate {A = ℕ} 1024 0)) i l)

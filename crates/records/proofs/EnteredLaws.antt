@@ -145,7 +145,7 @@ module _ (f : Form) (lead : ℕ) (network entries : List ℕ) where
       let most = r.usable.few in
       let long : length (replicate {A = ℕ} 1024 0) ≡ 1024 = length-replicate {A = ℕ} 1024 0 in
       record {
-        row = λ i m own. rw d (after_rows (with_entry f lead network entries) (replicate 1024 0) (λ k v. is_own f network k ≡ true → EntryRow f lead network entries k v)
+        row = λ i m own. rw d (after_rows (with_entry f lead network entries) (replicate 1024 0) (λ k v. is_own f network k ≡ true → EntryRow f lead network entries k v) 0
             step_long step_kept row
             (λ k q t g. step_here k t (omega (arith, first_le (entered f lead network entries) (node_count network))) (first_all (entered f lead network entries) (node_count network) k (omega arith)))
             i (omega arith) own);

@@ -1,5 +1,5 @@
 -- The loop that fills the table from ids to rows, from the last row to the first.
-use Prim.Native.Nat.{ℕ, ◌-◌, ◌≤◌, ◌<◌}
+use Prim.Native.Nat.{ℕ, ◌+◌, ◌-◌, ◌≤◌, ◌<◌}
 use native.Mathlib.Omega.{arith}
 use mathlib.Core.Path.{◌≡◌, ◌∙◌}
 use mathlib.Core.List.{List}
@@ -21,8 +21,8 @@ pub record Filling (f : Form) (b : List ℕ) (i : ℕ) (rows : List ℕ) : Type 
   pub entered : Indexing (node_id f b) (node_count b) 65536 i rows
 
 module _ (f : Form) (b rows : List ℕ) (i : ℕ) where
-  pub filling_start : i ≡ u16_at b 5 → rows ≡ replicate 65536 0 → Filling f b i rows
-  filling_start e z = rw (e, z) (record {
+  pub filling_start : (n : ℕ) → i ≡ n → n ≡ u16_at b 5 → rows ≡ replicate 65536 0 → Filling f b i rows
+  filling_start n d e z = rw (d, e, z) (record {
     within = omega arith;
     long = length-replicate {A = ℕ} 65536 0;
     entered = indexing_start _ _ _ _ (λ x l. get_or-replicate 65536 x 0 0 l);
@@ -32,15 +32,15 @@ module _ (f : Form) (b rows : List ℕ) (i : ℕ) where
     pub filling_row : 0 < i → i - 1 < node_count b
     filling_row l = let m = h.within in omega arith
 
-    pub filling_fits : Room f b → Fits w16 i
-    filling_fits r = let m = h.within in let k = r.few in let u = r.usable.few in omega arith
+    pub filling_fits : 0 < i → Room f b → Fits w16 (i - 1 + 1)
+    filling_fits p r = let m = h.within in let k = r.few in let u = r.usable.few in omega arith
 
-    pub filling_next : (id : ℕ) → 0 < i → Fits w16 id → id ≡ node_id f b (i - 1) → Filling f b (i - 1) (set rows id i)
-    filling_next id l m d = record {
+    pub filling_next : (wide id : ℕ) → 0 < i → wide ≡ id → id < 65536 → id ≡ node_id f b (i - 1) → Filling f b (i - 1) (set rows wide (i - 1 + 1))
+    filling_next wide id l w m d = let up : i - 1 + 1 ≡ i = omega arith in rw (w, up) (record {
       within = let p = h.within in omega arith;
       long = length-set rows id i ∙ h.long;
       entered = indexing_next _ _ _ _ i id h.entered l h.within h.long (omega arith) d;
-    }
+    })
 
     pub filling_end : i ≤ 0 → Filled f b rows
     unfolding Filled row_mark boxed row_of mark

@@ -13,6 +13,8 @@ use lib.ListN.{length, get_or, set, replicate}
 use mir.Syntax.{w64}
 use mir.Val.{Fits}
 use borrow.Author.Tests.{le-leb, lt-leb, not-true, not-false}
+use Rattle.std.proofs.Common.{Option, Some, None}
+use Rattle.std.proofs.lemmas.Option.{none-some, same_Some}
 use Rattle.lists.specs.First.{first_bad}
 use Rattle.lists.specs.Gather.{table_after}
 use Rattle.lists.proofs.Gather.{after_none, after_next}
@@ -91,9 +93,9 @@ module _ (f : Form) (b : List ℕ) where
                 let z : edge_formed f b (edge_offset f b j) ≡ true = rw (← e) read_formed in
                 rw (le-leb (least (edge_key f b) j) (edge_key f b j) (omega (arith, key_is))) z
 
-            pub good_next : key + 1 ≡ key_after f b j
+            pub good_next : Some (key + 1) ≡ key_after f b j
             unfolding key_after
-            good_next = rw good (ap (λ (x : ℕ). x + 1) key_is)
+            good_next = rw good (ap (λ (x : ℕ). Some (x + 1)) key_is)
 
             pub good_marks : (left marked : List ℕ) → marked ≡ set left (row_of f b from) 1 → marked ≡ marked_by f b (edge_ok f b) j left
             unfolding marked_by
@@ -101,7 +103,7 @@ module _ (f : Form) (b : List ℕ) where
 
   -- an edge that is not in order changes nothing
   module _ (j : ℕ) (e : edge_ok f b j ≡ false) where
-    pub bad_next : 0 ≡ key_after f b j
+    pub bad_next : None ≡ key_after f b j
     unfolding key_after
     bad_next = rw e
 
@@ -109,12 +111,12 @@ module _ (f : Form) (b : List ℕ) where
     unfolding marked_by
     bad_marks left = rw e
 
-  pub key_none : (j key : ℕ) → key ≡ key_after f b j → key ≡ 0 → edge_ok f b j ≡ false
+  key_none : (j : ℕ) → None ≡ key_after f b j → edge_ok f b j ≡ false
   unfolding key_after
-  key_none j key k z = go (edge_ok f b j) k
+  key_none j k = go (edge_ok f b j) k
     where
-      go : (t : Bool) → key ≡ cond t (edge_key f b j + 1) 0 → t ≡ false
-      go true q = absurd (omega arith)
+      go : (t : Bool) → None ≡ cond t (Some (edge_key f b j + 1)) None → t ≡ false
+      go true q = absurd (none-some _ q)
       go false q = refl
 
 pub ruleset edge_read = (edge_here, edge_to_here, edge_from_here, edge_from_sum, marking_there, read_low, read_ill, read_formed, good_next, good_marks, bad_next, bad_marks)
@@ -136,32 +138,33 @@ module _ (f : Form) (b : List ℕ) (n : ℕ) (left₀ : List ℕ) where
     pub edging_marks : n ≤ j → left ≡ table_after (marked_by f b any_edge) n left₀
     edging_marks l = let w = c.walk.within in let all : j ≡ n = omega arith in rw all at c.marks
 
-    pub edging_bad : j < n → edge_ok f b j ≡ false → j ≡ first_bad (edge_ok f b) n
-    edging_bad l e = walk_bad _ _ n j o c.walk l e
-
-    -- and nothing was marked
-    pub edging_bad_marks : (left' : List ℕ) → left' ≡ marked_by f b (edge_ok f b) j left → edge_ok f b j ≡ false → left' ≡ table_after (marked_by f b any_edge) j left₀
-    unfolding marked_by
-    edging_bad_marks left' d e = (rw e at d) ∙ c.marks
-
-    module _ (l : j < n) (key : ℕ) (k : key ≡ key_after f b j) where
-      pub edging_next : (left' : List ℕ) → (key ≡ 0 → ⊥) → left' ≡ marked_by f b (edge_ok f b) j left → Edging f b n (j + 1) (o + 5) key left₀ left'
-      unfolding key_after marked_by
-      edging_next left' z d = go (edge_ok f b j) refl k d
-        where
-          go : (t : Bool) → edge_ok f b j ≡ t → key ≡ cond t (edge_key f b j + 1) 0 → left' ≡ cond t (set left (row_of f b (edge_from f b j)) 1) left
-              → Edging f b n (j + 1) (o + 5) key left₀ left'
-          go false q k' d' = absurd (z k')
-          go true q k' d' =
-              let here = c.walk.here in
-              record {
-                walk = walk_next _ _ n j o c.walk (o + 5) l q (omega (arith, edge_after f b j));
-                floor = omega (arith, least_next (edge_key f b) j);
-                marks = after_next (marked_by f b any_edge) left₀ j left left' c.marks d';
-              }
-
+    module _ (l : j < n) where
       pub edging_fits : Room f b → n ≡ edge_count b → length b < 2 ^ 64 → Fits w64 (o + 5)
       edging_fits r q g = let here = c.walk.here in omega (arith, edge_room f b r j (omega arith))
+
+      module _ (read : Option ℕ) (k : read ≡ key_after f b j) where
+        pub edging_bad : read ≡ None → j ≡ first_bad (edge_ok f b) n
+        edging_bad e = walk_bad _ _ n j o c.walk l (key_none f b j (sym e ∙ k))
+
+        -- and nothing was marked
+        pub edging_bad_marks : (left' : List ℕ) → read ≡ None → left' ≡ marked_by f b (edge_ok f b) j left → left' ≡ table_after (marked_by f b any_edge) j left₀
+        unfolding marked_by
+        edging_bad_marks left' e d = (rw (key_none f b j (sym e ∙ k)) at d) ∙ c.marks
+
+        pub edging_next : (key : ℕ) (left' : List ℕ) → read ≡ Some key → left' ≡ marked_by f b (edge_ok f b) j left → Edging f b n (j + 1) (o + 5) key left₀ left'
+        unfolding key_after marked_by
+        edging_next key left' e d = go (edge_ok f b j) refl (sym e ∙ k) d
+          where
+            go : (t : Bool) → edge_ok f b j ≡ t → Some key ≡ cond t (Some (edge_key f b j + 1)) None → left' ≡ cond t (set left (row_of f b (edge_from f b j)) 1) left
+                → Edging f b n (j + 1) (o + 5) key left₀ left'
+            go false q k' d' = absurd (none-some _ (sym k'))
+            go true q k' d' =
+                let here = c.walk.here in
+                record {
+                  walk = walk_next _ _ n j o c.walk (o + 5) l q (omega (arith, edge_after f b j));
+                  floor = let s : key ≡ edge_key f b j + 1 = same_Some _ _ k' in omega (arith, least_next (edge_key f b) j);
+                  marks = after_next (marked_by f b any_edge) left₀ j left left' c.marks d';
+                }
 
 -- every edge is in order: the marks tell which rows edges leave
 pub left_marked : (f : Form) (b : List ℕ) (n bad : ℕ) (left : List ℕ) → Room f b → Rising (node_id f b) (node_count b) → n ≡ u16_at b 7 → bad ≡ first_bad (edge_ok f b) n → n ≤ bad

@@ -1,5 +1,5 @@
 -- The tables by which a network is read in one pass: from ids to rows, and from rows to whether an edge leaves them.
-use Rattle.std.specs.Prelude.{ℕ, ◌+◌, ◌<◌, ◌≡◌, Bool, true, false, cond, not, ◌&&◌, List, ltb, eqb, get_or, set, Result}
+use Rattle.std.specs.Prelude.{ℕ, ◌+◌, ◌<◌, ◌≡◌, Bool, true, false, cond, not, ◌&&◌, List, ltb, eqb, get_or, set, Result, Option, Some, None}
 use Rattle.lists.specs.First.{every}
 use Rattle.layout.specs.Layout.{Room, node_count}
 use Rattle.nodes.specs.Node.{node_id, row_of}
@@ -41,9 +41,9 @@ module _ (f : Form) (b : List ℕ) where
   Marked property m marks = (i : ℕ) → i < node_count b
       → get_or marks i 0 ≡ cond (not (every (λ j. not (property j && eqb (edge_from f b j) (node_id f b i))) m)) 1 0
 
-  -- the j-th edge read: what the next key may be at least, or 0 where the edge is not in order
-  unfoldable pub key_after : ℕ → ℕ
-  key_after j = cond (edge_ok f b j) (edge_key f b j + 1) 0
+  -- the j-th edge read: what the next key may be at least, if the edge is in order
+  unfoldable pub key_after : ℕ → Option ℕ
+  key_after j = cond (edge_ok f b j) (Some (edge_key f b j + 1)) None
 
   abbrev pub FilledOrKept : Bool → List ℕ → List ℕ → Type 0
   FilledOrKept true before after = Filled after

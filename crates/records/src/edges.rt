@@ -67,8 +67,7 @@ fn mark_left(form: Form, b: &[u8], rows: &[u16; 65536], left: &mut [u8; ROWS], f
 }
 
 // Reads the j-th edge, which stands at an offset and whose key may be low at least. Where it is in order the row of its from
-// end is marked, and the answer is what the next key may be at least; else nothing is marked, and the answer is 0. Each end is
-// read once.
+// end is marked, and the answer is what the next key may be at least; else nothing is marked. Each end is read once.
 fn read_edge(
     form: Form,
     b: &[u8],
@@ -77,7 +76,7 @@ fn read_edge(
     j: usize,
     at: usize,
     low: usize,
-) -> usize
+) -> Option<usize>
     requires tabled { Tabled form b.now rows.now × (j < edge_count b.now) }
     requires at_value { (at ≡ edge_offset form b.now j) × (low ≡ least (edge_key form b.now) j) }
     ensures next { result ≡ key_after form b.now j }
@@ -87,13 +86,13 @@ fn read_edge(
     let from = u16_at(b, at + 2);
     let key = edge_key(to, from);
     if key < low {
-        return 0;
+        return None;
     }
     if !edge_formed(form, b, rows, to, from, at) {
-        return 0;
+        return None;
     }
     mark_left(form, b, rows, left, from);
-    key + 1
+    Some(key + 1)
 }
 
 // The first of n edges that is ill formed or does not rise, or n. Marks the rows that the edges before it leave.
@@ -105,10 +104,10 @@ pub fn bad_edge(form: Form, b: &[u8], rows: &[u16; 65536], left: &mut [u8; ROWS]
     let mut o = edge_offset(form, b, 0);
     let mut low = 0;
     for j in 0..n {
-        low = read_edge(form, b, rows, left, j, o, low);
-        if low == 0 {
+        let Some(next) = read_edge(form, b, rows, left, j, o, low) else {
             return j;
-        }
+        };
+        low = next;
         o += EDGE_WIDTH;
     }
     n

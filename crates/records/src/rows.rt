@@ -15,11 +15,10 @@ pub fn fill_rows(form: Form, b: &[u8], rows: &mut [u16; 65536])
     requires { Room form b.now × (rows.old ≡ replicate 65536 0) }
     ensures { Filled form b.now rows.new }
 {
-    let mut i = u16_at(b, NODES_FIELD) as usize;
-    while 0 < i {
-        let id = node_id(form, b, i - 1) as usize;
-        rows[id] = i as u16;
-        i -= 1;
+    let n = usize::from(u16_at(b, NODES_FIELD));
+    for i in (0..n).rev() {
+        let id = usize::from(node_id(form, b, i));
+        rows[id] = (i + 1) as u16;
     }
 }
 

@@ -1,4 +1,4 @@
--- An edge out of order or ill formed leaves 0 and the marks; any other leaves its key and one and its mark.
+-- An edge out of order or ill formed leaves nothing and the marks; any other leaves its key and one and its mark.
 use Rattle.records.proofs.LeftLaws.{edge_read}
 use borrow.Author.Rules.{rules}
 use Rattle.records.proofs.edges.read_edge.Goals as goal

@@ -5,8 +5,8 @@ use Rattle.records.proofs.rows.fill_rows.Goals as goal
 pub loop-i-init : goal.loop-i-init
 loop-i-init c = search filling
 
-pub node_id-id-requires : goal.node_id-id-requires
-node_id-id-requires c = search (rules, filling)
+pub node_id-requires : goal.node_id-requires
+node_id-requires c = search (rules, filling)
 
 pub overflow_cast-rows : goal.overflow_cast-rows
 overflow_cast-rows c = search filling
