@@ -2,8 +2,12 @@
 --     wires_from, into              the wires from a row on, and those of them that lead to a box
 --     wires_start, wire_other, wire_mine, wires_skipped     one wire, and the wires to lower boxes, passed over
 --     edges_rise, to_climbs, wires_past     wires by their to end
+--     leads, leads_..              whether a wire leads to a box
 --     NextAt, next_..              the next wire, as the code holds it, is the j-th
+use Rattle.std.proofs.Common.{Option, Some, None}
+use Rattle.std.specs.Option.{option_eq}
 use mathlib.Core.Path.{◌≡◌, sym, ap, ap₂, ◌∙◌}
+use mathlib.Core.Bool.{Bool, true, false, not}
 use mathlib.Core.List.{List, [], ◌∷◌}
 use mathlib.Core.Logic.{⊎_elim}
 use Prim.Native.Nat.{ℕ, zero, suc, ◌+◌, ◌-◌, ◌≤◌, ◌<◌}
@@ -12,6 +16,7 @@ use native.Mathlib.Numerals.{add-one}
 use native.Mathlib.Omega.{arith}
 use lib.Dec.{eqb}
 use lib.ListN.{length}
+use borrow.Author.Rules.{rules}
 use borrow.Author.Tests.{eq-eqb, ne_eqb, lt-ltb, le-ltb}
 use Rattle.lists.specs.Filter.{filter}
 use Rattle.lists.specs.Rising.{Rising, least}
@@ -99,6 +104,26 @@ module _ (f : Form) (network : List ℕ) where
     pub wires_past : (node j : ℕ) → j ≤ edge_count network → (j < edge_count network → node < edge_to f network j) → into node (wires_from j) ≡ []
     wires_past node j l h = past node (edge_count network - j) j (omega arith) h
 
+-- a to end that is there is one number
+some_same : (a b : ℕ) → Some a ≡ Some b → a ≡ b
+some_same a b = ap (elim [ None ↦ 0 | Some x ↦ x ])
+
+some_none : (a : ℕ) → Some a ≡ None → ⊥
+some_none a e = let z : ◌≡◌ {A = ℕ} 1 0 = ap (elim [ None ↦ 0 | Some x ↦ 1 ]) e in omega arith
+
+-- whether a wire leads to a box, by the test of its to end
+module _ (id : ℕ) (t : Bool) where
+  pub leads : (to : Option ℕ) → t ≡ option_eq eqb to (Some id) → t ≡ true → to ≡ Some id
+  leads None e y = search rules
+  leads (Some k) e y = search rules
+
+  pub leads_here : (to : Option ℕ) → t ≡ not (option_eq eqb to (Some id)) → t ≡ false → to ≡ Some id
+  leads_here None e y = search rules
+  leads_here (Some k) e y = search rules
+
+  pub leads_elsewhere : (to : Option ℕ) → t ≡ not (option_eq eqb to (Some id)) → t ≡ true → to ≡ Some id → ⊥
+  leads_elsewhere to e y q = search rules
+
 -- the next wire is the j-th
 pub record NextAt (f : Form) (network : List ℕ) (wire : NextWire) (j : ℕ) : Type 0 where
   pub within : j ≤ edge_count network
@@ -110,27 +135,27 @@ module _ (f : Form) (network : List ℕ) (checked : CheckedNetwork f network) (w
   next_at = ap (λ (x : NextWire). x.at) n.is
 
   -- its to end, by whether there is one
-  pub next_to : j < edge_count network → wire.to ≡ edge_to f network j
+  pub next_to : j < edge_count network → wire.to ≡ Some (edge_to f network j)
   unfolding next_from edge_to
   next_to l =
       ap (λ (x : NextWire). x.to) n.is
       ∙ rw (lt-ltb (edge_offset f network j) (length network) (let r = edge_room f network checked.room j l in omega arith))
 
-  next_none : edge_count network ≤ j → wire.to ≡ 65536
+  next_none : edge_count network ≤ j → wire.to ≡ None
   unfolding next_from
   next_none l =
       let last : j ≡ edge_count network = let k = n.within in omega arith in
       ap (λ (x : NextWire). x.to) n.is
       ∙ rw (le-ltb (edge_offset f network j) (length network) (let e = checked.sound.whole in omega (arith, ap (edge_offset f network) last)))
 
-  module _ (node : ℕ) (small : node < 65536) where
+  module _ (node : ℕ) where
     -- a wire into a box
-    module _ (e : wire.to ≡ node) where
+    module _ (e : wire.to ≡ Some node) where
       pub next_there : j < edge_count network
-      next_there = ⊎_elim (λ (g : edge_count network ≤ j). absurd (let z = next_none g in omega arith)) (λ g. g) (le_or_lt (edge_count network) j)
+      next_there = ⊎_elim (λ (g : edge_count network ≤ j). absurd (some_none node (sym e ∙ next_none g))) (λ g. g) (le_or_lt (edge_count network) j)
 
       pub next_into : edge_to f network j ≡ node
-      next_into = sym (next_to next_there) ∙ e
+      next_into = some_same _ _ (sym (next_to next_there) ∙ e)
 
       pub next_wire : WireAt f network wire.at
       next_wire = record { row = j; there = next_there; at = next_at }
@@ -150,8 +175,8 @@ module _ (f : Form) (network : List ℕ) (checked : CheckedNetwork f network) (w
         }
 
     -- no further wire into it
-    pub next_past : (wire.to ≡ node → ⊥) → (j < edge_count network → node ≤ edge_to f network j) → j < edge_count network → node < edge_to f network j
+    pub next_past : (wire.to ≡ Some node → ⊥) → (j < edge_count network → node ≤ edge_to f network j) → j < edge_count network → node < edge_to f network j
     next_past ne ahead m =
         let a = ahead m in
-        let z : edge_to f network j ≡ node → ⊥ = λ p. ne (next_to m ∙ p) in
+        let z : edge_to f network j ≡ node → ⊥ = λ p. ne (next_to m ∙ ap Some p) in
         omega arith

@@ -3,6 +3,7 @@
 --     halving, wire_intos                       where the wires into a box begin
 --     trans_at_lem                                  what a wire makes of a route, by its policy
 --     offers, over_is                           what a wire gives, by its sender's route
+use Rattle.std.proofs.Common.{Some, None}
 use mathlib.Core.Path.{◌≡◌, sym, ap, ap₂, ◌∙◌}
 use mathlib.Core.Bool.{true}
 use mathlib.Core.List.{List}
@@ -47,13 +48,13 @@ use Rattle.preparing.proofs.PreparedLaws.{prepared_listed}
 
 -- the wire at an offset
 module _ (f : Form) (network : List ℕ) (h : CheckedNetwork f network) (o : ℕ) where
-  pub wire_none : length network ≤ o → record { at = o; to = 65536 } ≡ next_from network o
+  pub wire_none : length network ≤ o → record { at = o; to = None } ≡ next_from network o
   unfolding next_from
   wire_none l = rw (le-ltb o (length network) l)
 
-  pub wire_some : (t u : ℕ) → o < length network → t ≡ u → u ≡ u16_at network o → record { at = o; to = t } ≡ next_from network o
+  pub wire_some : (t : ℕ) → o < length network → t ≡ u16_at network o → record { at = o; to = Some t } ≡ next_from network o
   unfolding next_from
-  wire_some t u l p q = rw (lt-ltb o (length network) l, p, q)
+  wire_some t l p = rw (lt-ltb o (length network) l, p)
 
   -- where the record does not end, a wire stands
   pub wire_there : WireEnd f network o → o < length network → WireAt f network o
@@ -114,9 +115,6 @@ pub half_start : (network : List ℕ) (base id n : ℕ) → Around (to_at networ
 half_start network base id n = around_start (to_at network base) n id
 
 module _ (network : List ℕ) (base id n lo hi : ℕ) (a : Around (to_at network base) n id lo hi) where
-  pub half_place : n < 65536 → lo < hi → mid lo hi ≤ 65535
-  half_place m l = let g = a.high in omega arith
-
   -- the counts as the code reads and widens them
   module _ (f : Form) (checked : CheckedNetwork f network) (k u v : ℕ) (b : base ≡ node_offset f network k) (wide : k ≡ u) (nodes : u ≡ node_count network)
       (wide' : n ≡ v) (edges : v ≡ edge_count network) where
@@ -173,7 +171,7 @@ unfolding row_into
 into_place f network checked id j q =
     omega (arith, q, first_le (λ k. ltb (edge_to f network k) id) (edge_count network), u16_below network 7 (checked.bytes _, checked.bytes _))
 
-pub ruleset halving = (checked_usable, checked_long, checked_nodes, checked_edges, half_place, half_room, half_up, half_down, half_end)
+pub ruleset halving = (checked_usable, checked_long, checked_nodes, checked_edges, half_room, half_up, half_down, half_end)
 
 pub ruleset wire_intos = (checked_usable, checked_long, into_end, into_is, into_place)
 

@@ -1,5 +1,5 @@
 -- Steps along the wires, by their offsets, and where the wires into a box begin.
-use Rattle.std.specs.Prelude.{ℕ, ◌<◌, ◌≤◌, cond, List, ◌≡◌, ltb, length}
+use Rattle.std.specs.Prelude.{ℕ, ◌<◌, ◌≤◌, cond, List, ◌≡◌, ltb, length, Some, None}
 use Rattle.lists.specs.First.{first_bad}
 use Rattle.numbers.specs.BigEndian.{u16_at}
 use Rattle.routes.specs.declared.Route.{Route}
@@ -26,9 +26,9 @@ pub record WireEnd (f : Form) (network : List ℕ) (o : ℕ) : Type 0 where
   pub there : row ≤ edge_count network
   pub at : o ≡ edge_offset f network row
 
--- the wire at an offset with its to end, or 65,536, which is no id, where the record ends
+-- the wire at an offset with its to end, or with none where the record ends
 unfoldable pub next_from : List ℕ → ℕ → NextWire
-next_from network o = record { at = o; to = cond (ltb o (length network)) (u16_at network o) 65536 }
+next_from network o = record { at = o; to = cond (ltb o (length network)) (Some (u16_at network o)) None }
 
 -- the row of the first wire that leads to a box with this id or a higher one, or the number of wires: wires stand by their to end
 unfoldable pub row_into : Form → List ℕ → ℕ → ℕ

@@ -8,13 +8,12 @@ pub use own::{fault_at, own_box};
 use routes::Route;
 pub use wires::{first_wire, offer, over_wire, wire_behind, wire_into};
 
-// What is wrong at one box, first the due route, then the promise, then the demand.
+// What is wrong at one box: the due route comes before the promise, and the promise before the demand.
 #[derive(Clone, Copy)]
 pub enum Fault {
-    NoFault,
-    FaultDue(Route),
-    FaultPromise(Route),
-    FaultDemand(Route),
+    Due(Route),
+    Promise(Route),
+    Demand(Route),
 }
 
 // An own box with its initial route.
@@ -24,10 +23,9 @@ pub struct OwnBox {
     pub initial: Route,
 }
 
-// The wire that is looked at next: its offset, and its to end, which is read once. Behind the last wire the to end is 65,536,
-// which is no id.
+// The wire that is looked at next: its offset, and its to end, which is read once. Behind the last wire there is no to end.
 #[derive(Clone, Copy)]
 pub struct NextWire {
     pub at: usize,
-    pub to: usize,
+    pub to: Option<u16>,
 }

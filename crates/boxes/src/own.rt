@@ -5,13 +5,12 @@ ghost use Rattle.layout.specs.Layout.{Room, node_count};
 ghost use Rattle.nodes.specs.Node.{is_own};
 ghost use Rattle.reading.specs.Parts.{demand_at};
 ghost use Rattle.boxes.specs.OwnBox.{own_box_at, finding_of, unmet_of, fault_of, fault_at};
-ghost use Rattle.preparing.specs.Prepared.{Standing};
 
 use crate::{Fault, OwnBox};
-use layout::{Form, ROWS, node_offset};
+use layout::{Form, node_offset};
 use nodes::{demand_at, promising_at};
 use numbers::u16_at;
-use preparing::row_part;
+use preparing::Proposal;
 use routes::{Route, is_met, route_at, same};
 
 // The own box in a row.
@@ -27,24 +26,24 @@ pub fn own_box(form: Form, network: &[u8], row: usize) -> OwnBox
 }
 
 // Whether the route that the box at an offset holds leaves its demand unmet.
-fn unmet(width: usize, network: &[u8], at: usize, held: Route) -> Fault
+fn unmet(width: usize, network: &[u8], at: usize, held: Route) -> Option<Fault>
     requires { at + (9 + width + width) ≤ length network.now }
     ensures { finding_of result ≡ unmet_of (demand_at network.now (at + 4 + width + width)) held }
 {
     if is_met(demand_at(width, network, at), held) {
-        return Fault::NoFault;
+        return None;
     }
-    Fault::FaultDemand(held)
+    Some(Fault::Demand(held))
 }
 
 // The first fault of the own box in a row, which holds one route and is due another: the due route comes before the
 // promise, and the promise before the demand.
-fn fault_of(form: Form, network: &[u8], row: usize, held: Route, due: Route) -> Fault
+fn fault_of(form: Form, network: &[u8], row: usize, held: Route, due: Route) -> Option<Fault>
     requires { Room form network.now × (row < node_count network.now) }
     ensures { finding_of result ≡ fault_of form network.now row held due }
 {
     if !same(held, due) {
-        return Fault::FaultDue(due);
+        return Some(Fault::Due(due));
     }
     let at = node_offset(form, network, row);
     let width = form.route;
@@ -53,23 +52,17 @@ fn fault_of(form: Form, network: &[u8], row: usize, held: Route, due: Route) -> 
     }
     let promise = route_at(width, network, at + 4 + width);
     if !same(held, promise) {
-        return Fault::FaultPromise(promise);
+        return Some(Fault::Promise(promise));
     }
     unmet(width, network, at, held)
 }
 
 // The first fault of the own box in a row, which is due a route: it holds the one that the list has for it.
-pub fn fault_at<'a>(
-    form: Form,
-    network: &'a [u8],
-    list: &'a [u8],
-    stands: &[usize; ROWS],
-    row: usize,
-    due: Route,
-) -> Fault
-    requires { Standing form network.now list.now stands.now × (row < node_count network.now) × (is_own form network.now row ≡ true) }
-    ensures { finding_of result ≡ fault_at form network.now list.now row due }
+pub fn fault_at(proposal: &Proposal<'_, '_>, row: usize, due: Route) -> Option<Fault>
+    requires { (row < node_count proposal.now.network.now) × (is_own proposal.now.form proposal.now.network.now row ≡ true) }
+    ensures { finding_of result ≡ fault_at proposal.now.form proposal.now.network.now proposal.now.list.now row due }
 {
-    let held = route_at(form.route, row_part(form, network, list, stands, row), 0);
-    fault_of(form, network, row, held, due)
+    let form = proposal.form;
+    let held = route_at(form.route, proposal.row_part(row), 0);
+    fault_of(form, proposal.network, row, held, due)
 }

@@ -4,15 +4,12 @@ ghost use Rattle.lists.specs.Best.{best};
 ghost use Rattle.routes.specs.Order.{beats};
 ghost use Rattle.layout.specs.Layout.{edge_part, edge_offset};
 ghost use Rattle.records.specs.Checked.{CheckedNetwork};
-ghost use Rattle.preparing.specs.Prepared.{Prepared};
 ghost use Rattle.boxes.specs.Wires.{WireAt, WireEnd, next_from, row_into, offer_at};
 
 use crate::NextWire;
-use layout::{
-    EDGE_WIDTH, EDGES_FIELD, Form, NODES_FIELD, ROWS, edge_offset, node_offset, policy_offset,
-};
-use numbers::{stride, u16_at, wide, wide16};
-use preparing::box_route;
+use layout::{EDGE_WIDTH, EDGES_FIELD, Form, NODES_FIELD, edge_offset, node_offset, policy_offset};
+use numbers::{stride, u16_at};
+use preparing::Lookup;
 use routes::{HIGHEST, Route, better, carry, policy_at};
 
 // The wire at an offset. The last one ends where the record ends.
@@ -21,11 +18,11 @@ fn wire_from(form: Form, network: &[u8], at: usize) -> NextWire
     ensures { result ≡ next_from network.now at }
 {
     if network.len() <= at {
-        return NextWire { at, to: 65536 };
+        return NextWire { at, to: None };
     }
     NextWire {
         at,
-        to: wide16(u16_at(network, at)),
+        to: Some(u16_at(network, at)),
     }
 }
 
@@ -50,9 +47,9 @@ fn row_into(form: Form, network: &[u8], id: u16) -> usize
     requires { CheckedNetwork form network.now }
     ensures { result ≡ row_into form network.now id }
 {
-    let base = node_offset(form, network, wide16(u16_at(network, NODES_FIELD)));
+    let base = node_offset(form, network, usize::from(u16_at(network, NODES_FIELD)));
     let mut lo = 0;
-    let mut hi = wide16(u16_at(network, EDGES_FIELD));
+    let mut hi = usize::from(u16_at(network, EDGES_FIELD));
     while lo < hi {
         let mid = lo + (hi - lo) / 2;
         if u16_at(network, stride(base, EDGE_WIDTH, mid)) < id {
@@ -77,38 +74,19 @@ pub fn wire_into(form: Form, network: &[u8], id: u16) -> NextWire
 }
 
 // What the wire at an offset gives the box that it leads to.
-pub fn offer<'a>(
-    form: Form,
-    network: &'a [u8],
-    list: &'a [u8],
-    rows: &[u16; 65536],
-    stands: &[usize; ROWS],
-    at: usize,
-) -> Route
-    requires { Prepared form network.now list.now rows.now stands.now × WireAt form network.now at }
-    ensures { result ≡ offer_at form network.now list.now at }
+pub fn offer(lookup: &Lookup<'_, '_>, at: usize) -> Route
+    requires { WireAt lookup.now.proposal.form lookup.now.proposal.network.now at }
+    ensures { result ≡ offer_at lookup.now.proposal.form lookup.now.proposal.network.now lookup.now.proposal.list.now at }
 {
-    let policy = policy_at(network, policy_offset(wide(network[at + 4])));
-    let from = u16_at(network, at + 2);
-    carry(
-        HIGHEST,
-        policy,
-        box_route(form, network, list, rows, stands, from),
-    )
+    let network = lookup.proposal.network;
+    let policy = policy_at(network, policy_offset(usize::from(network[at + 4])));
+    carry(HIGHEST, policy, lookup.box_route(u16_at(network, at + 2)))
 }
 
 // The better of a route and what a wire gives.
-pub fn over_wire<'a>(
-    form: Form,
-    network: &'a [u8],
-    list: &'a [u8],
-    rows: &[u16; 65536],
-    stands: &[usize; ROWS],
-    wire: NextWire,
-    due: Route,
-) -> Route
-    requires { Prepared form network.now list.now rows.now stands.now × WireAt form network.now wire.at }
-    ensures { result ≡ best beats due (offer_at form network.now list.now wire.at) }
+pub fn over_wire(lookup: &Lookup<'_, '_>, wire: NextWire, due: Route) -> Route
+    requires { WireAt lookup.now.proposal.form lookup.now.proposal.network.now wire.at }
+    ensures { result ≡ best beats due (offer_at lookup.now.proposal.form lookup.now.proposal.network.now lookup.now.proposal.list.now wire.at) }
 {
-    better(due, offer(form, network, list, rows, stands, wire.at))
+    better(due, offer(lookup, wire.at))
 }

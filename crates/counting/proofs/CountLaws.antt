@@ -108,19 +108,19 @@ module _ (f : Form) (b : List ℕ) (o : ℕ) (p : Bool) (q : p ≡ promising f.r
   abbrev promise_at_lem : ℕ
   promise_at_lem = o + 3 + f.route
 
-  unset : not p ≡ true → eqb (get_or b (o + 3 + f.route) 0) 0 ≡ true
+  unset : p ≡ false → eqb (get_or b (o + 3 + f.route) 0) 0 ≡ true
   unfolding promising
-  unset z = not-false _ (sym q ∙ not-true p z)
+  unset z = not-false _ (sym q ∙ z)
 
-  set : not p ≡ false → eqb (get_or b (o + 3 + f.route) 0) 0 ≡ false
+  set : p ≡ true → eqb (get_or b (o + 3 + f.route) 0) 0 ≡ false
   unfolding promising
-  set z = not-true _ (sym q ∙ not-false p z)
+  set z = not-true _ (sym q ∙ z)
 
-  pub promise_off : not p ≡ true → false ≡ holds there (promise_at f.route b (o + 3 + f.route))
+  pub promise_off : p ≡ false → p ≡ holds there (promise_at f.route b (o + 3 + f.route))
   unfolding promise_at
-  promise_off z = rw (unset z)
+  promise_off z = z ∙ rw (unset z)
 
-  pub promise_on : (s : Route) (t : Bool) → not p ≡ false → s ≡ route_at f.route b (o + 4 + f.route) → t ≡ there s
+  pub promise_on : (s : Route) (t : Bool) → p ≡ true → s ≡ route_at f.route b (o + 4 + f.route) → t ≡ there s
       → t ≡ holds there (promise_at f.route b (o + 3 + f.route))
   unfolding promise_at
   promise_on s t z k e = let here : o + 3 + f.route + 1 ≡ o + 4 + f.route = omega arith in rw (set z, here) (e ∙ ap there k)
@@ -138,27 +138,31 @@ module _ (f : Form) (b : List ℕ) (o : ℕ) (d : Demand) (e : d ≡ demand_of f
   is : d ≡ demand
   is = e ∙ demand_row f.route b o
 
-  pub route_nothing : d ≡ Nothing → false ≡ asks_route demand
-  route_nothing q = rw (← is, q)
-
   pub route_hold : (c t : ℕ) → d ≡ Hold c t → true ≡ asks_route demand
   route_hold c t q = rw (← is, q)
 
-  pub route_none : d ≡ HoldNone → false ≡ asks_route demand
-  route_none q = rw (← is, q)
-
-  pub none_nothing : d ≡ Nothing → false ≡ asks_none demand
-  none_nothing q = rw (← is, q)
-
-  pub none_hold : (c t : ℕ) → d ≡ Hold c t → false ≡ asks_none demand
-  none_hold c t q = rw (← is, q)
+  pub route_other : ((c t : ℕ) → d ≡ Hold c t → ⊥) → false ≡ asks_route demand
+  route_other n = rw (← is) (go d n)
+    where
+      go : (x : Demand) → ((c t : ℕ) → x ≡ Hold c t → ⊥) → false ≡ asks_route x
+      go Nothing m = refl
+      go (Hold c t) m = absurd (m c t refl)
+      go HoldNone m = refl
 
   pub none_none : d ≡ HoldNone → true ≡ asks_none demand
   none_none q = rw (← is, q)
 
-pub ruleset asking_routes = (route_nothing, route_hold, route_none)
+  pub none_other : (d ≡ HoldNone → ⊥) → false ≡ asks_none demand
+  none_other n = rw (← is) (go d n)
+    where
+      go : (x : Demand) → (x ≡ HoldNone → ⊥) → false ≡ asks_none x
+      go Nothing m = refl
+      go (Hold c t) m = refl
+      go HoldNone m = absurd (m refl)
 
-pub ruleset asking_none = (none_nothing, none_hold, none_none)
+pub ruleset asking_routes = (route_hold, route_other)
+
+pub ruleset asking_none = (none_none, none_other)
 
 -- what is counted of inputs alone
 module _ (what : Counted) (f : Form) (network list : List ℕ) (i : ℕ) where
@@ -181,14 +185,14 @@ module _ (f : Form) (network list stands : List ℕ) (h : Standing f network lis
     silence = same (judge_held (house highest) (read_list f list) (node_id f network i)) None
 
     module _ (t : Bool) (e : t ≡ there (held f network list stands h i l)) where
-      pub overlooked_off : t ≡ true → false ≡ own_counted Silent (read_list f list) (own_in f network i)
+      pub overlooked_off : not t ≡ false → not t ≡ own_counted Silent (read_list f list) (own_in f network i)
       unfolding own_counted
-      overlooked_off q = let s = not-true silence (sym (holds_listed t e) ∙ q) in rw s
+      overlooked_off q = let s = not-true silence (sym (holds_listed t e) ∙ not-false t q) in q ∙ rw s
 
-      pub overlooked_on : (o : ℕ) (u : Bool) → t ≡ false → o ≡ node_offset f network i → u ≡ asks_none (demand_at network (o + 4 + f.route + f.route))
+      pub overlooked_on : (o : ℕ) (u : Bool) → not t ≡ true → o ≡ node_offset f network i → u ≡ asks_none (demand_at network (o + 4 + f.route + f.route))
           → not u ≡ own_counted Silent (read_list f list) (own_in f network i)
       unfolding own_counted
-      overlooked_on o u q z y = let s = not-false silence (sym (holds_listed t e) ∙ q) in rw (s, ← z) (ap not y)
+      overlooked_on o u q z y = let s = not-false silence (sym (holds_listed t e) ∙ not-true t q) in rw (s, ← z) (ap not y)
 
       pub own_holding : (what : Counted) → what ≡ Holding → t ≡ own_counted what (read_list f list) (own_in f network i)
       own_holding what w = rw w (holds_listed t e)
@@ -283,16 +287,15 @@ module _ (f : Form) (network list : List ℕ) (what : Counted) (n : ℕ) where
     unfolding counted_in
     counting_end m l p q = let e : i ≡ node_count network = let w = s.within in omega arith in s.counts ∙ ap (count (counted_at f network list what)) e
 
-    module _ (l : i < n) (t : Bool) (one : ℕ) (q : t ≡ counted_at f network list what i) (e : one ≡ cond t 1 0) where
-      one_small : (u : Bool) → cond u 1 0 ≤ 1
-      one_small true = omega arith
-      one_small false = omega arith
+    pub counting_fits : Fits w64 n → i < n → Fits w64 (so_far + 1)
+    counting_fits g l = let w = s.counts in omega (arith, count_le (counted_at f network list what) i)
 
-      pub counting_fits : Fits w64 n → Fits w64 (so_far + one)
-      counting_fits g = let h = one_small t in let w = s.counts in omega (arith, count_le (counted_at f network list what) i)
+    module _ (l : i < n) (t : Bool) (q : t ≡ counted_at f network list what i) where
+      pub counting_on : t ≡ true → Counting f network list what n (i + 1) (so_far + 1)
+      counting_on e = record { within = omega arith; counts = rw (s.counts, count_next (counted_at f network list what) i, ← q, e) }
 
-      pub counting_next : Counting f network list what n (i + 1) (so_far + one)
-      counting_next = record { within = omega arith; counts = rw (s.counts, e, q) (sym (count_next (counted_at f network list what) i)) }
+      pub counting_off : t ≡ false → Counting f network list what n (i + 1) so_far
+      counting_off e = record { within = omega arith; counts = rw (s.counts, count_next (counted_at f network list what) i, ← q, e) (omega arith) }
 
 pub counting_head : (f : Form) (network list stands : List ℕ) → Standing f network list stands → 5 + 2 ≤ length network
 counting_head f network list stands h = let r = (standing_room f network list stands h).long in omega arith
@@ -300,4 +303,4 @@ counting_head f network list stands h = let r = (standing_room f network list st
 pub counting_row : (i n m c : ℕ) → i < n → n ≡ m → m ≡ c → i < c
 counting_row i n m c l p q = omega arith
 
-pub ruleset countings = (counting_head, counting_row, counting_start, counting_end, counting_fits, counting_next)
+pub ruleset countings = (counting_head, counting_row, counting_start, counting_end, counting_fits, counting_on, counting_off)

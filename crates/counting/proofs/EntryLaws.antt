@@ -16,8 +16,7 @@ use Rattle.networks.specs.Network.{own_boxes}
 use Rattle.networks.proofs.Laws.Judging.{pass_verdict}
 use Rattle.layout.specs.Form.{form_of}
 use Rattle.layout.specs.Refusals.{check_answer, refusing}
-use Rattle.layout.specs.declared.Check.{Check}
-use Rattle.layout.specs.declared.Check.TheVariants.{Fine, Refused as Check-as-Refused}
+use Rattle.std.proofs.Common.{Result, Ok, Err}
 use Rattle.layout.specs.declared.Form.{Form}
 use Rattle.layout.specs.declared.Refusal.{Refusal}
 use Rattle.layout.proofs.OneForm.{one_form}
@@ -89,19 +88,23 @@ module _ (f : Form) (network list : List ℕ) (v : Verdict) (h : answer_of v ≡
 pub ruleset verdicts = (prepared_standing, pass_told, line_told)
 
 -- by what is refused before
-module _ (network list : List ℕ) (c : Check) (h : check_answer c ≡ prepare_refusal network list) where
-  module _ (r : Refusal) (e : c ≡ Check-as-Refused r) (l : Line) (m : line_bytes l ≡ verdict_line (answer_of (Refused r))) where
+module _ (network list : List ℕ) (c : Result Form Refusal) (h : check_answer c ≡ prepare_refusal network list) where
+  module _ (r : Refusal) (e : c ≡ Err r) (l : Line) (m : line_bytes l ≡ verdict_line (answer_of (Refused r))) where
     pub refused_told : line_bytes l ≡ census_records network list
     unfolding census_records
     refused_told = m ∙ rw (← judge_refused network list c h r e) (sym (append-nil (verdict_line (refusing r))))
 
-  module _ (f : Form) (e : c ≡ Fine f) where
-    pub judged_told : census_from f network list (verdict_at f network list) ≡ census_records network list
+  module _ (f : Form) (e : c ≡ Ok f) where
+    judged_told_lem : census_from f network list (verdict_at f network list) ≡ census_records network list
     unfolding census_from census_records
-    judged_told =
+    judged_told_lem =
         let own : form_of network ≡ f = given_form network list f (sym h ∙ ap check_answer e) in
         let one : form_of list ≡ f = one_form list network ∙ own in
         rw (own, one, judge_searched network list c h f e (verdict_at f network list) refl)
+
+    -- the lookup is in these records
+    pub judged_told : (g : Form) (n l : List ℕ) → g ≡ f → n ≡ network → l ≡ list → census_from g n l (verdict_at g n l) ≡ census_records network list
+    judged_told g n l p q r = rw (p, q, r) judged_told_lem
 
 pub ruleset entering = (refused_told, judged_told)
 

@@ -85,8 +85,8 @@ module _ (f : Form) (network list before : List ℕ) (n at : ℕ) where
   silences_start = record { within = omega arith; put = (refl, omega arith); near = omega arith; long = refl }
 
   module _ (after : List ℕ) (next i : ℕ) (s : Silences f network list before after n at next i) where
-    pub silences_room : i < n → n < 65536 → at < 2 ^ 63 → next + 28 < 2 ^ 64
-    silences_room l few low = let h = s.near in omega arith
+    pub silences_room : (m : ℕ) → i < n → n ≡ m → m < 65536 → at < 2 ^ 63 → next + 28 < 2 ^ 64
+    silences_room m l wide few low = let h = s.near in omega arith
 
     pub silences_next : (after' : List ℕ) (next' : ℕ) → i < n → Written (silent_row f network list i) after next after' next' → next' ≤ next + 28
         → length after' ≡ length after → Silences f network list before after' n at next' (i + 1)

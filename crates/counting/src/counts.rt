@@ -11,39 +11,29 @@ ghost use Rattle.reading.specs.House.{house};
 ghost use Rattle.reading.specs.Parts.{promise_at, demand_at};
 ghost use Rattle.reading.specs.Rows.{own_in, input_in};
 ghost use Rattle.reading.specs.Whole.{read_network, read_list};
-ghost use Rattle.preparing.specs.Prepared.{Standing};
 ghost use Rattle.counting.specs.Counted.{own_counted, input_counted, counted_at, counted_in};
 ghost use Rattle.counting.specs.declared.Counted.TheVariants.{Silent};
 
 use crate::Counted;
-use layout::{Form, NODES_FIELD, ROWS, node_offset};
+use layout::{Form, NODES_FIELD, node_offset};
 use nodes::{demand_at, is_own, promising_at};
-use numbers::{one_if, u16_at, wide16};
-use preparing::row_part;
+use numbers::u16_at;
+use preparing::Proposal;
 use routes::{Demand, Route, route_at};
 
 // Whether a route is there.
 fn is_route(route: Route) -> bool
     ensures { result ≡ is_route (house highest) route }
 {
-    match route {
-        Route::None => false,
-        Route::Held(_) => true,
-    }
+    matches!(route, Route::Held(_))
 }
 
 // Whether the node in a row holds a route: an own box by the list, an input by assumption.
-fn carries<'a>(
-    form: Form,
-    network: &'a [u8],
-    list: &'a [u8],
-    stands: &[usize; ROWS],
-    i: usize,
-) -> bool
-    requires { Standing form network.now list.now stands.now × (i < node_count network.now) }
-    ensures { result ≡ is_route (house highest) (mapping (house highest) (read_network form network.now) (read_list form list.now) (node_id form network.now i)) }
+fn carries(proposal: &Proposal<'_, '_>, i: usize) -> bool
+    requires { i < node_count proposal.now.network.now }
+    ensures { result ≡ is_route (house highest) (mapping (house highest) (read_network proposal.now.form proposal.now.network.now) (read_list proposal.now.form proposal.now.list.now) (node_id proposal.now.form proposal.now.network.now i)) }
 {
-    is_route(route_at(form.route, row_part(form, network, list, stands, i), 0))
+    is_route(route_at(proposal.form.route, proposal.row_part(i), 0))
 }
 
 // Whether the own box at an offset promises a route.
@@ -52,10 +42,7 @@ fn promises_route(form: Form, network: &[u8], at: usize) -> bool
     ensures { result ≡ holds (is_route (house highest)) (promise_at form.route network.now (at + 3 + form.route)) }
 {
     let width = form.route;
-    if !promising_at(width, network, at) {
-        return false;
-    }
-    is_route(route_at(width, network, at + 4 + width))
+    promising_at(width, network, at) && is_route(route_at(width, network, at + 4 + width))
 }
 
 // Whether the own box at an offset has to hold a route.
@@ -63,11 +50,7 @@ fn asks_route(form: Form, network: &[u8], at: usize) -> bool
     requires { at + (9 + form.route + form.route) ≤ length network.now }
     ensures { result ≡ asks_route (demand_at network.now (at + 4 + form.route + form.route)) }
 {
-    match demand_at(form.route, network, at) {
-        Demand::Nothing => false,
-        Demand::Hold { .. } => true,
-        Demand::HoldNone => false,
-    }
+    matches!(demand_at(form.route, network, at), Demand::Hold { .. })
 }
 
 // Whether it has to hold none.
@@ -75,70 +58,47 @@ fn asks_none(form: Form, network: &[u8], at: usize) -> bool
     requires { at + (9 + form.route + form.route) ≤ length network.now }
     ensures { result ≡ asks_none (demand_at network.now (at + 4 + form.route + form.route)) }
 {
-    match demand_at(form.route, network, at) {
-        Demand::Nothing => false,
-        Demand::Hold { .. } => false,
-        Demand::HoldNone => true,
-    }
+    matches!(demand_at(form.route, network, at), Demand::HoldNone)
 }
 
 // Whether the own box in a row holds no route though nobody asked for its silence.
-fn is_overlooked<'a>(
-    form: Form,
-    network: &'a [u8],
-    list: &'a [u8],
-    stands: &[usize; ROWS],
-    i: usize,
-) -> bool
-    requires { Standing form network.now list.now stands.now × (i < node_count network.now) × (is_own form network.now i ≡ true) }
-    ensures { result ≡ own_counted Silent (read_list form list.now) (own_in form network.now i) }
+fn is_overlooked(proposal: &Proposal<'_, '_>, i: usize) -> bool
+    requires { (i < node_count proposal.now.network.now) × (is_own proposal.now.form proposal.now.network.now i ≡ true) }
+    ensures { result ≡ own_counted Silent (read_list proposal.now.form proposal.now.list.now) (own_in proposal.now.form proposal.now.network.now i) }
 {
-    if carries(form, network, list, stands, i) {
-        return false;
-    }
-    !asks_none(form, network, node_offset(form, network, i))
+    let form = proposal.form;
+    let network = proposal.network;
+    !carries(proposal, i) && !asks_none(form, network, node_offset(form, network, i))
 }
 
 // Whether the own box in a row is counted.
-fn own_counted<'a>(
-    form: Form,
-    network: &'a [u8],
-    list: &'a [u8],
-    stands: &[usize; ROWS],
-    what: Counted,
-    i: usize,
-) -> bool
-    requires { Standing form network.now list.now stands.now × (i < node_count network.now) × (is_own form network.now i ≡ true) }
-    ensures { result ≡ own_counted what (read_list form list.now) (own_in form network.now i) }
+fn own_counted(proposal: &Proposal<'_, '_>, what: Counted, i: usize) -> bool
+    requires { (i < node_count proposal.now.network.now) × (is_own proposal.now.form proposal.now.network.now i ≡ true) }
+    ensures { result ≡ own_counted what (read_list proposal.now.form proposal.now.list.now) (own_in proposal.now.form proposal.now.network.now i) }
 {
+    let form = proposal.form;
+    let network = proposal.network;
     let at = node_offset(form, network, i);
     match what {
-        Counted::Holding => carries(form, network, list, stands, i),
+        Counted::Holding => carries(proposal, i),
         Counted::Inputs => false,
         Counted::Assumed => false,
         Counted::Promises => promising_at(form.route, network, at),
         Counted::Promised => promises_route(form, network, at),
         Counted::Asked => asks_route(form, network, at),
-        Counted::Silent => is_overlooked(form, network, list, stands, i),
+        Counted::Silent => is_overlooked(proposal, i),
     }
 }
 
 // Whether the input in a row is counted.
-fn input_counted<'a>(
-    form: Form,
-    network: &'a [u8],
-    list: &'a [u8],
-    stands: &[usize; ROWS],
-    what: Counted,
-    i: usize,
-) -> bool
-    requires { Standing form network.now list.now stands.now × (i < node_count network.now) × (is_own form network.now i ≡ false) }
-    ensures { result ≡ input_counted what (input_in form network.now i) }
+fn input_counted(proposal: &Proposal<'_, '_>, what: Counted, i: usize) -> bool
+    requires { (i < node_count proposal.now.network.now) × (is_own proposal.now.form proposal.now.network.now i ≡ false) }
+    ensures { result ≡ input_counted what (input_in proposal.now.form proposal.now.network.now i) }
 {
     match what {
         Counted::Holding => false,
         Counted::Inputs => true,
-        Counted::Assumed => carries(form, network, list, stands, i),
+        Counted::Assumed => carries(proposal, i),
         Counted::Promises => false,
         Counted::Promised => false,
         Counted::Asked => false,
@@ -147,40 +107,26 @@ fn input_counted<'a>(
 }
 
 // Whether the node in a row is counted.
-pub fn is_counted<'a>(
-    form: Form,
-    network: &'a [u8],
-    list: &'a [u8],
-    stands: &[usize; ROWS],
-    what: Counted,
-    i: usize,
-) -> bool
-    requires { Standing form network.now list.now stands.now × (i < node_count network.now) }
-    ensures { result ≡ counted_at form network.now list.now what i }
+pub fn is_counted(proposal: &Proposal<'_, '_>, what: Counted, i: usize) -> bool
+    requires { i < node_count proposal.now.network.now }
+    ensures { result ≡ counted_at proposal.now.form proposal.now.network.now proposal.now.list.now what i }
 {
-    if is_own(form, network, i) {
-        return own_counted(form, network, list, stands, what, i);
+    if is_own(proposal.form, proposal.network, i) {
+        return own_counted(proposal, what, i);
     }
-    input_counted(form, network, list, stands, what, i)
+    input_counted(proposal, what, i)
 }
 
 // How many of the nodes are counted.
-pub fn count_rows<'a>(
-    form: Form,
-    network: &'a [u8],
-    list: &'a [u8],
-    stands: &[usize; ROWS],
-    what: Counted,
-) -> usize
-    requires { Standing form network.now list.now stands.now }
-    ensures { result ≡ counted_in form network.now list.now what }
+pub fn count_rows(proposal: &Proposal<'_, '_>, what: Counted) -> usize
+    ensures { result ≡ counted_in proposal.now.form proposal.now.network.now proposal.now.list.now what }
 {
-    let n = wide16(u16_at(network, NODES_FIELD));
+    let n = usize::from(u16_at(proposal.network, NODES_FIELD));
     let mut counted = 0;
-    let mut i = 0;
-    while i < n {
-        counted += one_if(is_counted(form, network, list, stands, what, i));
-        i += 1;
+    for i in 0..n {
+        if is_counted(proposal, what, i) {
+            counted += 1;
+        }
     }
     counted
 }

@@ -2,7 +2,6 @@
 ghost use Rattle.std.specs.Prelude.{◌≡◌, length};
 ghost use Rattle.lists.specs.Laid.{placed};
 ghost use Rattle.judging.specs.Answers.{answer_of};
-ghost use Rattle.preparing.specs.Prepared.{Prepared, Standing};
 ghost use Rattle.judging.specs.Text.{verdict_line};
 ghost use Rattle.judging.specs.Judging.{verdict_at};
 ghost use Rattle.counting.specs.Rows.{pass_rows};
@@ -11,9 +10,9 @@ ghost use Rattle.counting.specs.Text.{census_from, census_records, longest_censu
 use crate::Tally;
 use crate::text::{put_census, tally};
 use judging::{Verdict, longest_input, search, verdict_line};
-use layout::{Check, Form, ROWS};
+use layout::ROWS;
 use lines::{LONGEST_LINE, Line, first_length, place_line};
-use preparing::prepare;
+use preparing::{Lookup, Proposal, prepare};
 
 // Room enough for every census: the judge's line, four lines of counts, and the line of every box.
 pub const LONGEST_CENSUS: usize = LONGEST_LINE + 400 + 28 * ROWS;
@@ -26,45 +25,29 @@ pub fn longest_census() -> usize
 }
 
 // Places the census of a pass at the start of out where it fits, and answers its length.
-fn place_pass<'a>(
-    form: Form,
-    network: &'a [u8],
-    list: &'a [u8],
-    stands: &[usize; ROWS],
-    tally: Tally,
-    out: &mut [u8],
-) -> usize
-    requires { Standing form network.now list.now stands.now }
-    ensures count { result ≡ length (pass_rows form network.now list.now tally) }
-    ensures text { out.new ≡ placed (pass_rows form network.now list.now tally) out.old }
+fn place_pass(proposal: &Proposal<'_, '_>, tally: Tally, out: &mut [u8]) -> usize
+    ensures count { result ≡ length (pass_rows proposal.now.form proposal.now.network.now proposal.now.list.now tally) }
+    ensures text { out.new ≡ placed (pass_rows proposal.now.form proposal.now.network.now proposal.now.list.now tally) out.old }
 {
     let mut none = [0u8; 0];
-    let length = put_census(form, network, list, stands, tally, &mut none);
+    let length = put_census(proposal, tally, &mut none);
     if out.len() < length {
         return length;
     }
-    put_census(form, network, list, stands, tally, out)
+    put_census(proposal, tally, out)
 }
 
 // Judges a list that judging does not refuse, and places its census.
-fn place_judged<'a>(
-    form: Form,
-    network: &'a [u8],
-    list: &'a [u8],
-    rows: &[u16; 65536],
-    stands: &[usize; ROWS],
-    out: &mut [u8],
-) -> usize
-    requires { Prepared form network.now list.now rows.now stands.now }
-    ensures count { result ≡ length (census_from form network.now list.now (verdict_at form network.now list.now)) }
-    ensures text { out.new ≡ placed (census_from form network.now list.now (verdict_at form network.now list.now)) out.old }
+fn place_judged(lookup: &Lookup<'_, '_>, out: &mut [u8]) -> usize
+    ensures count { result ≡ length (census_from lookup.now.proposal.form lookup.now.proposal.network.now lookup.now.proposal.list.now (verdict_at lookup.now.proposal.form lookup.now.proposal.network.now lookup.now.proposal.list.now)) }
+    ensures text { out.new ≡ placed (census_from lookup.now.proposal.form lookup.now.proposal.network.now lookup.now.proposal.list.now (verdict_at lookup.now.proposal.form lookup.now.proposal.network.now lookup.now.proposal.list.now)) out.old }
 {
-    let verdict = search(form, network, list, rows, stands);
+    let verdict = search(lookup);
     let Verdict::Pass(boxes) = verdict else {
         return place_line(verdict_line(verdict), out);
     };
-    let counts = tally(form, network, list, stands, boxes);
-    place_pass(form, network, list, stands, counts, out)
+    let proposal = &lookup.proposal;
+    place_pass(proposal, tally(proposal, boxes), out)
 }
 
 // Judges a list record against a network record, and places the judge's line and behind a pass the census at the start of out,
@@ -76,8 +59,8 @@ pub fn census<'a>(network: &'a [u8], list: &'a [u8], out: &mut [u8]) -> usize
     let mut rows = [0u16; 65536];
     let mut stands = [0usize; ROWS];
     match prepare(network, list, &mut rows, &mut stands) {
-        Check::Refused(r) => place_line(verdict_line(Verdict::Refused(r)), out),
-        Check::Fine(form) => place_judged(form, network, list, &rows, &stands, out),
+        Err(r) => place_line(verdict_line(Verdict::Refused(r)), out),
+        Ok(form) => place_judged(&Lookup::new(form, network, list, &rows, &stands), out),
     }
 }
 

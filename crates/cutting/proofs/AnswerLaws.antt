@@ -14,7 +14,7 @@ use Rattle.records.specs.Entered.{entered, with_entry, EntryRows}
 use Rattle.layout.specs.Form.{sheet_lead, node_width}
 use Rattle.layout.specs.Layout.{Room, node_count, node_part, node_offset}
 use Rattle.records.proofs.EnteredLaws.{entry_rows_lem}
-use Rattle.marking.specs.Tables.{with_fragment, box_in, own_meets, unclashed, Numbered, RowTables, outside}
+use Rattle.marking.specs.Tables.{box_in, own_meets, unclashed, Numbered, outside}
 use borrow.Author.Tests.{eq-eqb, ne_eqb, lt-ltb, le-ltb}
 use Rattle.lists.specs.All.{any}
 use Rattle.lists.specs.Filter.{holds}
@@ -45,9 +45,8 @@ use Rattle.outcomes.specs.Room.{in_room, record_answer, laid_answer}
 use Rattle.cutting.specs.Cutting.{cut_said}
 use Rattle.laying.specs.Pieces.{fragment_in}
 use Rattle.cutting.specs.Stages.{AllEntered, Asked}
-use Rattle.records.specs.Checked.{CheckedNetwork, CheckedEntries}
 use Rattle.routes.specs.Carry.{highest}
-use Rattle.marking.proofs.FragmentLaws.{outside_is, entered_is, fragments_numbered}
+use Rattle.marking.proofs.FragmentLaws.{outside_is, entered_is}
 
 -- the record's length, with what the room for it answers
 pub record_roomed : (room size : ℕ) (w : List ℕ) (a : Answer ℕ) → size ≡ length w → a ≡ in_room room size → a ≡ in_room room (length w)
@@ -127,11 +126,6 @@ module _ (f : Form) (network sheet : List ℕ) (k : ℕ) where
         pub all_entered : AllEntered f network sheet
         unfolding AllEntered
         all_entered = none_missing
-
-    -- all rows have their fragment numbers
-    pub all_rows : (found fragments : List ℕ) → CheckedNetwork f network → CheckedEntries f sheet_lead sheet → EntryRows f sheet_lead network sheet found
-        → fragments ≡ table_after (with_fragment f network sheet) n (replicate 1024 0) → RowTables f network sheet found fragments
-    all_rows found fragments c d h g = record { checked = c; formed = d; noted = h; numbered = fragments_numbered f network sheet n fragments c e g }
 
     -- no own node with the number asked, or one
     module _ (h : AllEntered f network sheet) (fragments : List ℕ) (m : Numbered f network sheet fragments) (asked : ℕ) (q : asked ≡ first_bad (outside f network fragments k) n) where

@@ -7,30 +7,26 @@ use mathlib.Core.Path.{◌≡◌, sym, ap, ◌∙◌}
 use native.Mathlib.Omega.{arith}
 use Rattle.records.specs.Checked.{CheckedEntries}
 use Rattle.lists.specs.Bytes.{Bytes}
-use Rattle.lists.specs.Gather.{count, table_after}
+use Rattle.lists.specs.Gather.{count}
 use Rattle.lists.specs.Answer.{Answer}
 use Rattle.entries.specs.Entries.{sheet_refusal, WellFormed}
-use lib.ListN.{replicate}
 use Rattle.layout.specs.Layout.{node_count, edge_count}
 use Rattle.records.specs.Network.{network_refusal, SoundRecord}
 use Rattle.layout.specs.Refusals.{check_answer, refusing}
-use Rattle.layout.specs.declared.Check.{Check}
-use Rattle.layout.specs.declared.Check.TheVariants.{Fine, Refused}
+use Rattle.std.specs.Prelude.{Result, Ok, Err}
 use Rattle.layout.specs.declared.Form.{Form}
 use Rattle.layout.specs.declared.Refusal.{Refusal}
 use Rattle.outcomes.specs.Room.{record_answer, laid_answer}
 use Rattle.cutting.specs.Cutting.{cut_said, cut_network, cut_records, cut_buffer}
-use Rattle.laying.specs.Pieces.{PieceTables}
 use Rattle.marking.specs.Marks.{reaches}
-use Rattle.marking.specs.Pieces.{keeps, with_piece}
-use Rattle.marking.specs.Tables.{RowTables}
+use Rattle.marking.specs.Pieces.{keeps}
 use Rattle.marking.proofs.MarkSaid.{leaving, feeding}
 use Rattle.marking.proofs.PieceLaws.{pieces_made}
 use Rattle.records.proofs.Checked.{network_told, entries_told, one_told, together_checked}
 use Rattle.layout.specs.Form.{sheet_lead, form_of}
 
-module _ (network sheet : List ℕ) (k : ℕ) (c : Check) (h : check_answer c ≡ network_refusal network) where
-  module _ (r : Refusal) (e : c ≡ Refused r) where
+module _ (network sheet : List ℕ) (k : ℕ) (c : Result Form Refusal) (h : check_answer c ≡ network_refusal network) where
+  module _ (r : Refusal) (e : c ≡ Err r) where
     network_said : cut_network network sheet k ≡ refusing r
     unfolding cut_network
     network_said = let n : network_refusal network ≡ refusing r = sym h ∙ ap check_answer e in rw n
@@ -43,11 +39,11 @@ module _ (network sheet : List ℕ) (k : ℕ) (c : Check) (h : check_answer c �
     unfolding cut_buffer
     network_kept out = rw network_said
 
-  module _ (f : Form) (e : c ≡ Fine f) (d : Check) (g : check_answer d ≡ sheet_refusal sheet) where
+  module _ (f : Form) (e : c ≡ Ok f) (d : Result Form Refusal) (g : check_answer d ≡ sheet_refusal sheet) where
     sound : SoundRecord network
     sound = (network_told c f e network h).1
 
-    module _ (r : Refusal) (q : d ≡ Refused r) where
+    module _ (r : Refusal) (q : d ≡ Err r) where
       sheet_said : cut_network network sheet k ≡ refusing r
       unfolding cut_network
       sheet_said = let n : sheet_refusal sheet ≡ refusing r = sym g ∙ ap check_answer q in rw (sound, n)
@@ -60,7 +56,7 @@ module _ (network sheet : List ℕ) (k : ℕ) (c : Check) (h : check_answer c �
       unfolding cut_buffer
       sheet_kept out = rw sheet_said
 
-    module _ (i : Form) (q : d ≡ Fine i) where
+    module _ (i : Form) (q : d ≡ Ok i) where
       -- both records are read by the network's form
       said : cut_network network sheet k ≡ cut_said f network sheet k
       unfolding cut_network cut_said
@@ -78,8 +74,8 @@ module _ (network sheet : List ℕ) (k : ℕ) (c : Check) (h : check_answer c �
       records_laid out out' p = rw (said, (network_told c f e network h).0) p
 
 -- a sheet that is taken with a network is checked by the network's form
-pub sheet_checked : (network sheet : List ℕ) (c : Check) → check_answer c ≡ network_refusal network → (d : Check) → check_answer d ≡ sheet_refusal sheet → Bytes sheet
-    → (f : Form) → c ≡ Fine f → (g : Form) → d ≡ Fine g → CheckedEntries f sheet_lead sheet
+pub sheet_checked : (network sheet : List ℕ) (c : Result Form Refusal) → check_answer c ≡ network_refusal network → (d : Result Form Refusal) → check_answer d ≡ sheet_refusal sheet → Bytes sheet
+    → (f : Form) → c ≡ Ok f → (g : Form) → d ≡ Ok g → CheckedEntries f sheet_lead sheet
 sheet_checked network sheet c h d k small f e g q = together_checked c d f g e q network h sheet_lead sheet k (omega arith, omega arith) small
 
 pub ruleset checking = (network_refused, network_kept, sheet_refused, sheet_kept, records_cut, records_laid)
@@ -93,8 +89,4 @@ module _ (f : Form) (network sheet : List ℕ) (k n : ℕ) (e : n ≡ node_count
   pub nodes_counted : (kept : ℕ) → kept ≡ count (keeps f network sheet k) n → kept ≡ count (keeps f network sheet k) (node_count network)
   nodes_counted kept h = rw (← e) h
 
-  pub tabled : (found fragments pieces : List ℕ) → RowTables f network sheet found fragments
-      → pieces ≡ table_after (with_piece f network sheet k) n (replicate 1024 0) → PieceTables f network sheet found fragments pieces k
-  tabled found fragments pieces t h = record { tables = t; parted = pieces_made f network sheet found fragments k n pieces t e h }
-
-pub ruleset tables_whole = (leaving, feeding, wires_counted, nodes_counted, tabled)
+pub ruleset tables_whole = (leaving, feeding, wires_counted, nodes_counted, pieces_made)

@@ -6,7 +6,7 @@ use mathlib.Core.Path.{◌≡◌, refl, sym, ap, ◌∙◌}
 use mathlib.Core.Bool.{true}
 use mathlib.Core.List.{List, []}
 use Prim.Native.Nat.{ℕ, ◌+◌, ◌-◌, ◌≤◌, ◌<◌}
-use native.Mathlib.Nat.{sub-zero, add-zero}
+use native.Mathlib.Nat.{add-zero}
 use native.Mathlib.Omega.{arith}
 use lib.ListN.{length, get_or, take, drop, drop_of_length-le}
 use lib.Seq.{take_all, drop-drop, get_or-drop}
@@ -83,10 +83,10 @@ module _ (input : List ℕ) (bound : ℕ) (b : bound ≡ cut_bound) where
         said input (take (length input - first) (drop first input)) 0 (sym (take_all (first_length input) input (omega arith))) (rest_lent input first ∙ empty ∙ rw rest) (rw rest)
 
     pub text_asked : (behind : ℕ) → (first ≡ length input → ⊥) → first ≤ length input → behind ≡ first + 1
-        → record_output (form_of (take (first - 0) (drop 0 input))) (cut_network (take (first - 0) (drop 0 input)) (take (length input - behind) (drop behind input)) (get_or input first 0)) ≡ cut_text input
+        → record_output (form_of (take first input)) (cut_network (take first input) (take (length input - behind) (drop behind input)) (get_or input first 0)) ≡ cut_text input
     text_asked behind u l q =
-        said (take (first - 0) (drop 0 input)) (take (length input - behind) (drop behind input)) (get_or input first 0)
-        (rw (sub-zero, e))
+        said (take first input) (take (length input - behind) (drop behind input)) (get_or input first 0)
+        (rw e)
         (rest_lent input behind ∙ rw (q, e) (sym (drop-drop 1 (first_length input) input)))
         (rw (e, get_or-drop, add-zero))
 

@@ -55,5 +55,5 @@ pub fn cut_bytes(input: &[u8], out: &mut [u8]) -> usize
         return put_fragment(input, &input[first..], 0, out);
     }
     let behind = first + 1;
-    put_fragment(&input[0..first], &input[behind..], input[first], out)
+    put_fragment(&input[..first], &input[behind..], input[first], out)
 }

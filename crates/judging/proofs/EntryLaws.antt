@@ -10,8 +10,7 @@ use Rattle.networks.specs.Judge.{Verdict, judge, judge_table}
 use Rattle.entries.specs.Entries.{list_refusal}
 use Rattle.records.specs.Network.{network_refusal}
 use Rattle.layout.specs.Refusals.{check_answer, refusing}
-use Rattle.layout.specs.declared.Check.{Check}
-use Rattle.layout.specs.declared.Check.TheVariants.{Fine, Refused}
+use Rattle.std.proofs.Common.{Result, Ok, Err}
 use Rattle.layout.specs.declared.Refusal.{Refusal}
 use Rattle.reading.specs.Whole.{read_network, read_list, network_of, list_of}
 use Rattle.judging.specs.Judging.{judge_records, verdict_at}
@@ -48,13 +47,13 @@ module _ (network list : List ℕ) where
           let one : form_of list ≡ f = one_form list network ∙ own in
           rw (own, one) (lacking_is f)
 
-  module _ (c : Check) (h : check_answer c ≡ prepare_refusal network list) where
-    pub judge_refused : (r : Refusal) → c ≡ Refused r → refusing r ≡ judge_records network list
+  module _ (c : Result Form Refusal) (h : check_answer c ≡ prepare_refusal network list) where
+    pub judge_refused : (r : Refusal) → c ≡ Err r → refusing r ≡ judge_records network list
     judge_refused r e =
         let n : prepare_refusal network list ≡ refusing r = sym h ∙ ap check_answer e in
         sym (judge_is ∙ rw n)
 
-    module _ (f : Form) (e : c ≡ Fine f) where
+    module _ (f : Form) (e : c ≡ Ok f) where
       told : prepare_refusal network list ≡ given f
       told = sym h ∙ ap check_answer e
 
@@ -69,7 +68,7 @@ module _ (network list : List ℕ) where
       asked_named id x g =
           rw (given_form network list f told) (g ∙ ap (λ (a : Answer (Verdict Route)). unless_refused a (named_part f network list id)) judge_verdict)
 
-    pub asked_refused : (id : ℕ) (r : Refusal) → c ≡ Refused r → [] ≡ neighbour_bytes network list id
+    pub asked_refused : (id : ℕ) (r : Refusal) → c ≡ Err r → [] ≡ neighbour_bytes network list id
     unfolding neighbour_bytes
     asked_refused id r e = ap (λ (a : Answer (Verdict Route)). unless_refused a (named_part (form_of network) network list id)) (judge_refused r e)
 

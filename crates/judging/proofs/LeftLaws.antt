@@ -1,7 +1,7 @@
 -- What the search has still to look at, and what it comes to.
 --     boxes_from                the boxes that are still to be looked at
 --     Skipped                  for every id from a least one on, only the wires from j on matter
---     Due                      what the wires from j on make of a route is the due route
+--     DueFrom                      what the wires from j on make of a route is the due route
 --     stopped_at                the verdict where a box was judged
 --     Left                     the verdict from here is the verdict from the start
 use mathlib.Core.Path.{◌≡◌, sym, ap, ap₂, ◌∙◌}
@@ -59,7 +59,7 @@ module _ (f : Form) (network list : List ℕ) where
     pub skipped : (node : ℕ) → lo ≤ node → into f network node N.wires ≡ into f network node (wires_from f network j)
 
   -- the due route of a box with an initial route, from the wires that are left
-  pub record Due (node : ℕ) (initial r : Route) (j : ℕ) : Type 0 where
+  pub record DueFrom (node : ℕ) (initial r : Route) (j : ℕ) : Type 0 where
     pub is : due_over node initial N.wires ≡ due_over node r (wires_from f network j)
 
   pub record Left (i count : ℕ) : Type 0 where
@@ -86,7 +86,7 @@ module _ (f : Form) (network list : List ℕ) where
     wire_skips node m k = record { skipped = λ x g. k.skipped x g ∙ wire_other f network j l x (λ e. omega arith) }
 
     pub wire_due : (node : ℕ) (initial r x : Route) → edge_to f network j ≡ node → x ≡ best beats r (offer_at f network list (edge_offset f network j))
-        → Due node initial r j → Due node initial x (j + 1)
+        → DueFrom node initial r j → DueFrom node initial x (j + 1)
     unfolding offer_at
     wire_due node initial r x e q d = record {
       is = d.is
@@ -96,7 +96,7 @@ module _ (f : Form) (network list : List ℕ) where
 
   -- past the last wire into a box
   pub due_past : CheckedNetwork f network → (node j : ℕ) (initial r : Route) → j ≤ edge_count network → (j < edge_count network → node < edge_to f network j)
-      → Due node initial r j → due_over node initial N.wires ≡ r
+      → DueFrom node initial r j → due_over node initial N.wires ≡ r
   due_past checked node j initial r l h d =
       d.is ∙ ap (λ (ws : List Wire). best_of (house highest) r (map (given_by f network list) ws)) (wires_past f network checked node j l h)
 
@@ -104,7 +104,7 @@ module _ (f : Form) (network list : List ℕ) where
   pub skip_more : (j lo hi : ℕ) → lo ≤ hi → Skipped j lo → Skipped j hi
   skip_more j lo hi l k = record { skipped = λ node g. k.skipped node (omega arith) }
 
-  pub due_start : (node j lo : ℕ) (initial : Route) → lo ≤ node → Skipped j lo → Due node initial initial j
+  pub due_start : (node j lo : ℕ) (initial : Route) → lo ≤ node → Skipped j lo → DueFrom node initial initial j
   due_start node j lo initial l k = record { is = ap (λ (ws : List Wire). best_of (house highest) initial (map (given_by f network list) ws)) (k.skipped node l) }
 
   module _ (i count : ℕ) (h : Left i count) where

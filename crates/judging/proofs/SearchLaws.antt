@@ -6,7 +6,9 @@ use mathlib.Core.Path.{◌≡◌, refl, sym, ap, ◌∙◌, subst}
 use mathlib.Core.Bool.{Bool, true, false, not}
 use mathlib.Core.List.{List}
 use mathlib.Core.Logic.{⊎_elim}
-use mathlib.Core.Option.{Option, none, some}
+use mathlib.Core.Option.{none, some}
+use mathlib.Core.Option as maybe
+use Rattle.std.proofs.Common.{Option, Some, None}
 use Prim.Native.Nat.{ℕ, zero, suc, ◌+◌, ◌-◌, ◌≤◌, ◌<◌, zero-le}
 use native.Mathlib.Nat.{not-suc-le-zero, eq-or-lt_of_le, le_of_suc-le-suc}
 use native.Mathlib.Omega.{arith}
@@ -27,7 +29,7 @@ use Rattle.lists.specs.Answer.{given}
 use Rattle.reading.specs.House.{house}
 use Rattle.networks.specs.Judge.{Finding, pass, found, held}
 use Rattle.records.specs.Edge.{boxed, owned, edge_to}
-use Rattle.layout.specs.Layout.{Room, node_count, edge_count, node_offset, edge_part}
+use Rattle.layout.specs.Layout.{node_count, edge_count, node_offset, edge_part}
 use Rattle.nodes.specs.Node.{node_id, node_ok, node_formed, row_of, is_own}
 use Rattle.layout.proofs.Places.{edge_first}
 use Rattle.records.proofs.RowLaws.{row_within, row_found}
@@ -39,15 +41,13 @@ use Rattle.records.specs.Checked.{CheckedNetwork}
 use Rattle.routes.specs.Carry.{highest}
 use Rattle.judging.specs.Judging.{verdict_at}
 use Rattle.boxes.specs.OwnBox.{own_box_at, fault_of}
-use Rattle.preparing.specs.Prepared.{Standing, Prepared}
 use Rattle.boxes.specs.Wires.{WireAt, next_from, offer_at}
 use Rattle.boxes.specs.declared.Fault.{Fault}
-use Rattle.boxes.specs.declared.Fault.TheVariants.{NoFault, FaultDue, FaultPromise, FaultDemand}
+use Rattle.boxes.specs.declared.Fault.TheVariants.{Due, Promise, Demand}
 use Rattle.boxes.specs.declared.NextWire.{NextWire}
 use Rattle.boxes.specs.declared.OwnBox.{OwnBox}
-use Rattle.judging.proofs.LeftLaws.{stopped_at, Skipped, Due, Left, skip_start, left_start, wire_skips, wire_due, due_past, skip_more, due_start, left_end, left_input, left_fault}
-use Rattle.boxes.proofs.IntoLaws.{to_climbs, NextAt, next_at, next_there, next_into, next_wire, next_less, next_next, next_past}
-use Rattle.preparing.proofs.PreparedLaws.{prepared_standing, prepared_checked}
+use Rattle.judging.proofs.LeftLaws.{stopped_at, Skipped, DueFrom, Left, skip_start, left_start, wire_skips, wire_due, due_past, skip_more, due_start, left_end, left_input, left_fault}
+use Rattle.boxes.proofs.IntoLaws.{to_climbs, leads_here, leads_elsewhere, NextAt, next_at, next_there, next_into, next_wire, next_less, next_next, next_past}
 
 -- The next wire is the j-th, and those before it lead to boxes below lo.
 pub record Next (f : Form) (network list : List ℕ) (wire : NextWire) (lo j : ℕ) : Type 0 where
@@ -59,8 +59,8 @@ abbrev pub Ahead : Form → List ℕ → ℕ → ℕ → Type 0
 Ahead f network lo j = j < edge_count network → lo ≤ edge_to f network j
 
 -- The verdict from here is the verdict from the start.
-pub record SearchingFacts (f : Form) (network list rows stands : List ℕ) (n i count : ℕ) (wire : NextWire) : Type 0 where
-  pub prepared : Prepared f network list rows stands
+pub record SearchingFacts (f : Form) (network list : List ℕ) (n i count : ℕ) (wire : NextWire) : Type 0 where
+  pub checked : CheckedNetwork f network
   pub within : i ≤ n
   pub nodes : n ≡ node_count network
   pub counted : count ≤ i
@@ -70,11 +70,10 @@ pub record SearchingFacts (f : Form) (network list rows stands : List ℕ) (n i 
   pub ahead : Ahead f network (least (node_id f network) i) j
 
 -- What the wires that are left make of the route u is the due route of the box in a row.
-pub record WiringFacts (f : Form) (network list rows stands : List ℕ) (n i count row node : ℕ) (u : Route) (wire : NextWire) : Type 0 where
-  pub prepared : Prepared f network list rows stands
+pub record WiringFacts (f : Form) (network list : List ℕ) (n count row node : ℕ) (u : Route) (wire : NextWire) : Type 0 where
+  pub checked : CheckedNetwork f network
   pub there : row < n
   pub nodes : n ≡ node_count network
-  pub behind : i ≡ row + 1
   pub own : is_own f network row ≡ true
   pub named : node ≡ node_id f network row
   pub before : ℕ
@@ -84,14 +83,14 @@ pub record WiringFacts (f : Form) (network list rows stands : List ℕ) (n i cou
   pub j : ℕ
   pub next : Next f network list wire (node + 1) j
   pub ahead : Ahead f network node j
-  pub due : Due f network list node (route_at f.route network (node_offset f network row + 3)) u j
+  pub due : DueFrom f network list node (route_at f.route network (node_offset f network row + 3)) u j
 
 -- Both are shut, so that the loops carry them whole.
-unfoldable pub Searching : Form → List ℕ → List ℕ → List ℕ → List ℕ → ℕ → ℕ → ℕ → NextWire → Type 0
-Searching f network list rows stands n i count wire = SearchingFacts f network list rows stands n i count wire
+unfoldable pub Searching : Form → List ℕ → List ℕ → ℕ → ℕ → ℕ → NextWire → Type 0
+Searching f network list n i count wire = SearchingFacts f network list n i count wire
 
-unfoldable pub Wiring : Form → List ℕ → List ℕ → List ℕ → List ℕ → ℕ → ℕ → ℕ → ℕ → ℕ → Route → NextWire → Type 0
-Wiring f network list rows stands n i count row node u wire = WiringFacts f network list rows stands n i count row node u wire
+unfoldable pub Wiring : Form → List ℕ → List ℕ → ℕ → ℕ → ℕ → ℕ → Route → NextWire → Type 0
+Wiring f network list n count row node u wire = WiringFacts f network list n count row node u wire
 
 -- an id before place i is below the least that may stand there
 least_above : (ids : ℕ → ℕ) (n r i : ℕ) → Rising ids n → r < i → i ≤ n → ids r < least ids i
@@ -149,12 +148,12 @@ module _ (f : Form) (network : List ℕ) (checked : CheckedNetwork f network) wh
         (λ (g : i < to_row). let z = above g in let e = least_next (node_id f network) i in omega arith)
         (eq-or-lt_of_le to_from)
 
-module _ (f : Form) (network list rows stands : List ℕ) where
-  pub search_start : (n m : ℕ) (wire : NextWire) → Prepared f network list rows stands → n ≡ m → m ≡ u16_at network 5 → wire ≡ next_from network (edge_part f network)
-      → Searching f network list rows stands n 0 0 wire
+module _ (f : Form) (network list : List ℕ) where
+  pub search_start : (n m : ℕ) (wire : NextWire) → CheckedNetwork f network → n ≡ m → m ≡ u16_at network 5 → wire ≡ next_from network (edge_part f network)
+      → Searching f network list n 0 0 wire
   unfolding Searching least
   search_start n m wire h p q e = record {
-    prepared = h;
+    checked = h;
     within = zero-le;
     nodes = p ∙ q;
     counted = zero-le;
@@ -164,16 +163,13 @@ module _ (f : Form) (network list rows stands : List ℕ) where
     ahead = λ l. zero-le;
   }
 
-  module _ (n i count : ℕ) (wire : NextWire) (kept : Searching f network list rows stands n i count wire) where
-    s : SearchingFacts f network list rows stands n i count wire
+  module _ (n i count : ℕ) (wire : NextWire) (kept : Searching f network list n i count wire) where
+    s : SearchingFacts f network list n i count wire
     unfolding Searching
     s = kept
 
     checked : CheckedNetwork f network
-    checked = prepared_checked f network list rows stands s.prepared
-
-    pub search_room : Room f network
-    search_room = checked.room
+    checked = s.checked
 
     pub search_pass : n ≤ i → given (pass count) ≡ verdict_at f network list
     search_pass l = left_end f network list i count s.left (let e = s.nodes in omega arith)
@@ -186,14 +182,14 @@ module _ (f : Form) (network list rows stands : List ℕ) where
       search_count b = let c = s.counted in omega arith
 
       module _ (t : Bool) (w : t ≡ is_own f network i) where
-        pub search_input : not t ≡ true → Searching f network list rows stands n (i + 1) count wire
+        pub search_input : not t ≡ true → Searching f network list n (i + 1) count wire
         unfolding Searching
         search_input y =
             let r = ids_rise f network checked i search_row in
             let e = least_next (node_id f network) i in
             let up : least (node_id f network) i ≤ least (node_id f network) (i + 1) = omega arith in
             record {
-              prepared = s.prepared;
+              checked = s.checked;
               within = omega arith;
               nodes = s.nodes;
               counted = let c = s.counted in omega arith;
@@ -204,16 +200,15 @@ module _ (f : Form) (network list rows stands : List ℕ) where
             }
 
         pub search_wires : (own : OwnBox) → not t ≡ false → own ≡ own_box_at f network i
-            → Wiring f network list rows stands n (i + 1) (count + 1) i own.node own.initial wire
+            → Wiring f network list n (count + 1) i own.node own.initial wire
         unfolding Wiring own_box_at
         search_wires own y p =
             let named : own.node ≡ node_id f network i = ap (λ (b : OwnBox). b.node) p in
             let low : least (node_id f network) i ≤ own.node = let r = ids_rise f network checked i search_row in omega arith in
             record {
-              prepared = s.prepared;
+              checked = s.checked;
               there = l;
               nodes = s.nodes;
-              behind = refl;
               own = sym w ∙ not-false t y;
               named = named;
               before = count;
@@ -223,116 +218,105 @@ module _ (f : Form) (network list rows stands : List ℕ) where
               j = s.j;
               next = record { at = s.next.at; skipped = skip_more f network list s.j _ _ (omega arith) s.next.skipped };
               ahead = λ m. let z = box_ahead f network checked i s.j search_row s.ahead m in omega arith;
-              due = subst (λ (r : Route). Due f network list own.node r own.initial s.j) (ap (λ (b : OwnBox). b.initial) p)
+              due = subst (λ (r : Route). DueFrom f network list own.node r own.initial s.j) (ap (λ (b : OwnBox). b.initial) p)
                   (due_start f network list own.node s.j _ own.initial low s.next.skipped);
             }
 
 -- at the own box in a row
-module _ (f : Form) (network list rows stands : List ℕ) (n i count row node : ℕ) (u : Route) (wire : NextWire)
-    (kept : Wiring f network list rows stands n i count row node u wire) where
-  w : WiringFacts f network list rows stands n i count row node u wire
+module _ (f : Form) (network list : List ℕ) (n count row node : ℕ) (u : Route) (wire : NextWire)
+    (kept : Wiring f network list n count row node u wire) where
+  w : WiringFacts f network list n count row node u wire
   unfolding Wiring
   w = kept
 
-  pub wiring_prepared : Prepared f network list rows stands
-  wiring_prepared = w.prepared
+  wiring_checked : CheckedNetwork f network
+  wiring_checked = w.checked
 
-  pub wiring_standing : Standing f network list stands
-  wiring_standing = prepared_standing f network list rows stands w.prepared
-
-  pub wiring_checked : CheckedNetwork f network
-  wiring_checked = prepared_checked f network list rows stands w.prepared
-
-  pub wiring_row : row < node_count network
+  wiring_row : row < node_count network
   wiring_row = let e = w.nodes in let l = w.there in omega arith
-
-  pub wiring_own : is_own f network row ≡ true
-  wiring_own = w.own
 
   next : NextAt f network wire w.j
   next = w.next.at
 
-  module _ (k : ℕ) (q : k ≡ node) (small : k < 65536) where
-    -- a wire into the box
-    module _ (e : wire.to ≡ k) where
-      there : w.j < edge_count network
-      there = next_there f network wiring_checked wire w.j next k small e
+  -- a wire into the box
+  module _ (e : wire.to ≡ Some node) where
+    there : w.j < edge_count network
+    there = next_there f network wiring_checked wire w.j next node e
 
-      mine : edge_to f network w.j ≡ node
-      mine = next_into f network wiring_checked wire w.j next k small e ∙ q
+    mine : edge_to f network w.j ≡ node
+    mine = next_into f network wiring_checked wire w.j next node e
 
-      pub wiring_wire : WireAt f network wire.at
-      wiring_wire = next_wire f network wiring_checked wire w.j next k small e
+    pub wiring_wire : WireAt f network wire.at
+    wiring_wire = next_wire f network wiring_checked wire w.j next node e
 
-      module _ (behind : NextWire) (g : behind ≡ next_from network (wire.at + 5)) where
-        pub wiring_less : length network - behind.at < length network - wire.at
-        wiring_less = next_less f network wiring_checked wire w.j next k small e behind g
+    module _ (behind : NextWire) (g : behind ≡ next_from network (wire.at + 5)) where
+      pub wiring_less : length network - behind.at < length network - wire.at
+      wiring_less = next_less f network wiring_checked wire w.j next node e behind g
 
-        pub wiring_next : (x : Route) → x ≡ best beats u (offer_at f network list wire.at) → Wiring f network list rows stands n i count row node x behind
-        unfolding Wiring
-        wiring_next x y = record {
-          prepared = w.prepared;
-          there = w.there;
-          nodes = w.nodes;
-          behind = w.behind;
-          own = w.own;
-          named = w.named;
-          before = w.before;
-          counts = w.counts;
-          counted = w.counted;
-          left = w.left;
-          j = w.j + 1;
-          next = record {
-            at = next_next f network wiring_checked wire w.j next k small e behind g;
-            skipped = wire_skips f network list w.j there node (let z = mine in omega arith) w.next.skipped;
-          };
-          ahead = λ m. let z = mine in omega (arith, to_climbs f network wiring_checked w.j (w.j + 1) (omega arith) m);
-          due = wire_due f network list w.j there node _ u x mine (y ∙ ap (λ (o : ℕ). best beats u (offer_at f network list o)) (next_at f network wiring_checked wire w.j next)) w.due;
-        }
+      pub wiring_next : (x : Route) → x ≡ best beats u (offer_at f network list wire.at) → Wiring f network list n count row node x behind
+      unfolding Wiring
+      wiring_next x y = record {
+        checked = w.checked;
+        there = w.there;
+        nodes = w.nodes;
+        own = w.own;
+        named = w.named;
+        before = w.before;
+        counts = w.counts;
+        counted = w.counted;
+        left = w.left;
+        j = w.j + 1;
+        next = record {
+          at = next_next f network wiring_checked wire w.j next node e behind g;
+          skipped = wire_skips f network list w.j there node (let z = mine in omega arith) w.next.skipped;
+        };
+        ahead = λ m. let z = mine in omega (arith, to_climbs f network wiring_checked w.j (w.j + 1) (omega arith) m);
+        due = wire_due f network list w.j there node _ u x mine (y ∙ ap (λ (o : ℕ). best beats u (offer_at f network list o)) (next_at f network wiring_checked wire w.j next)) w.due;
+      }
 
-    -- no further wire into the box
-    module _ (ne : wire.to ≡ k → ⊥) where
-      past : w.j < edge_count network → node < edge_to f network w.j
-      past m = let z = next_past f network wiring_checked wire w.j next k small ne (λ l. let a = w.ahead l in omega arith) m in omega arith
+  -- no further wire into the box
+  module _ (ne : wire.to ≡ Some node → ⊥) where
+    past : w.j < edge_count network → node < edge_to f network w.j
+    past m = let z = next_past f network wiring_checked wire w.j next node ne (λ l. let a = w.ahead l in omega arith) m in omega arith
 
-      -- what the fault at the box makes of the verdict
-      at_fault : (o : Option (Finding Route)) → o ≡ fault_of f network row (held (house highest) (read_list f list) (node_id f network row)) u
-          → stopped_at f network list o node (w.before + 1) (row + 1) ≡ verdict_at f network list
-      at_fault o e = left_fault f network list row w.before w.left wiring_row w.own node _ _ u o w.named refl refl
-          (due_past f network list wiring_checked node w.j _ u next.within past w.due) e
+    -- what the fault at the box makes of the verdict
+    at_fault : (o : maybe.Option (Finding Route)) → o ≡ fault_of f network row (held (house highest) (read_list f list) (node_id f network row)) u
+        → stopped_at f network list o node (w.before + 1) (row + 1) ≡ verdict_at f network list
+    at_fault o e = left_fault f network list row w.before w.left wiring_row w.own node _ _ u o w.named refl refl
+        (due_past f network list wiring_checked node w.j _ u next.within past w.due) e
 
-      module _ (r : Fault) (a : finding_of r ≡ fault_of f network row (held (house highest) (read_list f list) (node_id f network row)) u) where
-        at_found : (number : ℕ) (route : Route) → some (record { number = number; route = route }) ≡ finding_of r
-            → given (found number node route count) ≡ verdict_at f network list
-        at_found number route e =
-            ap (λ (c : ℕ). given (found number node route c)) w.counts
-            ∙ at_fault (some (record { number = number; route = route })) (e ∙ a)
+    module _ (r : Option Fault) (a : finding_of r ≡ fault_of f network row (held (house highest) (read_list f list) (node_id f network row)) u) where
+      at_found : (number : ℕ) (route : Route) → some (record { number = number; route = route }) ≡ finding_of r
+          → given (found number node route count) ≡ verdict_at f network list
+      at_found number route e =
+          ap (λ (c : ℕ). given (found number node route c)) w.counts
+          ∙ at_fault (some (record { number = number; route = route })) (e ∙ a)
 
-        pub wiring_due : (route : Route) → r ≡ FaultDue route → given (found 31 node route count) ≡ verdict_at f network list
-        wiring_due route e = at_found 31 route (ap finding_of (sym e))
+      pub wiring_due : (x : Fault) (route : Route) → r ≡ Some x → x ≡ Due route → given (found 31 node route count) ≡ verdict_at f network list
+      wiring_due x route p q = at_found 31 route (ap finding_of (sym (p ∙ ap Some q)))
 
-        pub wiring_promise : (route : Route) → r ≡ FaultPromise route → given (found 32 node route count) ≡ verdict_at f network list
-        wiring_promise route e = at_found 32 route (ap finding_of (sym e))
+      pub wiring_promise : (x : Fault) (route : Route) → r ≡ Some x → x ≡ Promise route → given (found 32 node route count) ≡ verdict_at f network list
+      wiring_promise x route p q = at_found 32 route (ap finding_of (sym (p ∙ ap Some q)))
 
-        pub wiring_demand : (route : Route) → r ≡ FaultDemand route → given (found 33 node route count) ≡ verdict_at f network list
-        wiring_demand route e = at_found 33 route (ap finding_of (sym e))
+      pub wiring_demand : (x : Fault) (route : Route) → r ≡ Some x → x ≡ Demand route → given (found 33 node route count) ≡ verdict_at f network list
+      wiring_demand x route p q = at_found 33 route (ap finding_of (sym (p ∙ ap Some q)))
 
-        pub wiring_end : r ≡ NoFault → Searching f network list rows stands n i count wire
-        unfolding Searching
-        wiring_end e =
-            let up : node + 1 ≡ least (node_id f network) i =
-            ap (λ (m : ℕ). m + 1) w.named ∙ least_next (node_id f network) row ∙ ap (least (node_id f network)) (sym w.behind) in
-            record {
-              prepared = w.prepared;
-              within = let l = w.there in let b = w.behind in omega arith;
-              nodes = w.nodes;
-              counted = let c = w.counted in let d = w.counts in let b = w.behind in omega arith;
-              left = record { is = rw (w.behind, w.counts) (at_fault none (ap finding_of (sym e) ∙ a)) };
-              j = w.j;
-              next = subst (λ (m : ℕ). Next f network list wire m w.j) up w.next;
-              ahead = λ m. let z = past m in omega (arith, up);
-            }
+      pub wiring_end : r ≡ None → Searching f network list n (row + 1) count wire
+      unfolding Searching
+      wiring_end e =
+          let up : node + 1 ≡ least (node_id f network) (row + 1) =
+          ap (λ (m : ℕ). m + 1) w.named ∙ least_next (node_id f network) row in
+          record {
+            checked = w.checked;
+            within = let l = w.there in omega arith;
+            nodes = w.nodes;
+            counted = let c = w.counted in let d = w.counts in omega arith;
+            left = record { is = rw w.counts (at_fault none (ap finding_of (sym e) ∙ a)) };
+            j = w.j;
+            next = subst (λ (m : ℕ). Next f network list wire m w.j) up w.next;
+            ahead = λ m. let z = past m in omega (arith, up);
+          }
 
-pub ruleset searching = (search_start, search_room, search_pass, search_row, search_count, search_input, search_wires)
+pub ruleset searching = (search_start, search_pass, search_row, search_count, search_input, search_wires)
 
-pub ruleset wiring = (wiring_less, wiring_next, wiring_due, wiring_promise, wiring_demand, wiring_end)
+pub ruleset wiring = (leads_here, leads_elsewhere, wiring_less, wiring_wire, wiring_next, wiring_due, wiring_promise, wiring_demand, wiring_end)

@@ -6,8 +6,8 @@ ghost use Rattle.judging.specs.Neighbour.{neighbour_bytes};
 
 use crate::Verdict;
 use crate::first_fault::search;
-use layout::{Check, ROWS};
-use preparing::{named_part, prepare};
+use layout::ROWS;
+use preparing::{Lookup, prepare};
 
 // Judges a list record against a network record: the network's refusals, the list's, an own box without an entry, and then
 // the first fault or a pass.
@@ -17,8 +17,8 @@ pub fn judge<'a>(network: &'a [u8], list: &'a [u8]) -> Verdict
     let mut rows = [0u16; 65536];
     let mut stands = [0usize; ROWS];
     match prepare(network, list, &mut rows, &mut stands) {
-        Check::Refused(r) => Verdict::Refused(r),
-        Check::Fine(form) => search(form, network, list, &rows, &stands),
+        Err(r) => Verdict::Refused(r),
+        Ok(form) => search(&Lookup::new(form, network, list, &rows, &stands)),
     }
 }
 
@@ -30,7 +30,7 @@ pub fn neighbour<'a>(network: &'a [u8], list: &'a [u8], id: u16) -> &'a [u8]
     let mut rows = [0u16; 65536];
     let mut stands = [0usize; ROWS];
     match prepare(network, list, &mut rows, &mut stands) {
-        Check::Refused(_) => &network[0..0],
-        Check::Fine(form) => named_part(form, network, list, &rows, &stands, id),
+        Err(_) => &network[0..0],
+        Ok(form) => Lookup::new(form, network, list, &rows, &stands).named_part(id),
     }
 }

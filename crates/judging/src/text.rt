@@ -7,9 +7,8 @@ ghost use Rattle.judging.specs.Text.{verdict_line, judge_bound, naming_bound, ju
 
 use crate::entry::judge;
 use crate::{Finding, Verdict};
-use layout::{LARGEST_LIST, LARGEST_NETWORK, number_of};
+use layout::{LARGEST_LIST, LARGEST_NETWORK};
 use lines::{Line, first_length, place_line};
-use numbers::{wide, wide16};
 
 // The longest input: the largest network and the largest route list.
 pub const LONGEST: usize = LARGEST_NETWORK + LARGEST_LIST;
@@ -35,7 +34,7 @@ fn finding_line(number: usize, finding: Finding) -> Line
     ensures { line_bytes result ≡ found_line number finding.node finding.count finding.route }
 {
     let route = finding.route;
-    Line::Found(number, wide16(finding.node), finding.count, route)
+    Line::Found(number, usize::from(finding.node), finding.count, route)
 }
 
 // The line of a verdict.
@@ -49,7 +48,7 @@ pub fn verdict_line(verdict: Verdict) -> Line
         Verdict::DemandUnmet(finding) => finding_line(33, finding),
         Verdict::Refused(refusal) => {
             let class = refusal.class;
-            Line::Refused(wide(number_of(class)), refusal.place)
+            Line::Refused(usize::from(u8::from(class)), refusal.place)
         },
     }
 }

@@ -26,10 +26,12 @@ use Rattle.layout.specs.declared.Form.{Form}
 use Rattle.reading.specs.Parts.{box_at, wire_at}
 use Rattle.reading.specs.Whole.{HouseNetwork, read_network, read_sheet, write_network}
 use Rattle.marking.specs.Marks.{reaches}
-use Rattle.marking.specs.Pieces.{piece_in, keeps}
+use Rattle.marking.specs.Pieces.{piece_in, keeps, Pieces}
+use Rattle.marking.specs.declared.Kept.{Kept}
 use Rattle.writing.specs.Heads.{size_of}
-use Rattle.laying.specs.Pieces.{node_bytes, edge_bytes, fragment_in, NodeTables, PieceTables, box_kept, wire_kept, FragmentParts}
-use Rattle.marking.specs.Tables.{box_in}
+use Rattle.laying.specs.Pieces.{node_bytes, edge_bytes, fragment_in, NotesOfOwn, box_kept, wire_kept, FragmentParts}
+use Rattle.records.specs.Checked.{CheckedNetwork}
+use Rattle.marking.specs.Tables.{box_in, Numbered}
 use Rattle.marking.proofs.MarkSaid.{reaches_is}
 use Rattle.writing.proofs.Parts.{record_kept}
 use Rattle.writing.proofs.Selected.{Selected, selected_parts}
@@ -38,12 +40,13 @@ use Rattle.writing.proofs.Selected.{Selected, selected_parts}
 filter_kept : {A : Type 0} (p : A → Bool) (xs : List A) → filter p xs ≡ filter_map (λ (x : A). cond (p x) (some x) none) xs
 filter_kept {A} p xs = sym (map-id (filter p xs)) ∙ map_filter (λ (x : A). x) p xs
 
--- a part with a note is an own node's
-pub node_tables_lem : (f : Form) (network sheet entries fragments pieces : List ℕ) (k : ℕ) → PieceTables f network sheet entries fragments pieces k → NodeTables f network sheet entries pieces
-node_tables_lem f network sheet entries fragments pieces k t =
-    record { checked = t.tables.checked; formed = t.tables.formed; noted = t.tables.noted; ours = λ i l. (t.parted.row i l).ours }
+-- what is kept with a note is an own node
+pub notes_of_own : (f : Form) (network sheet entries : List ℕ) (k : ℕ) (pieces : List Kept) → Pieces f network sheet entries k pieces → NotesOfOwn f network pieces
+unfolding NotesOfOwn
+notes_of_own f network sheet entries k pieces p i l = (p.row i l).ours
 
-module _ (f : Form) (network sheet entries fragments pieces : List ℕ) (k : ℕ) (t : PieceTables f network sheet entries fragments pieces k) where
+module _ (f : Form) (network sheet entries fragments : List ℕ) (k : ℕ) (pieces : List Kept) (c : CheckedNetwork f network) (m : Numbered f network sheet fragments)
+    (parted : Pieces f network sheet entries k pieces) where
   abbrev F : HouseNetwork
   F = fragment_in f network sheet k
 
@@ -52,7 +55,7 @@ module _ (f : Form) (network sheet entries fragments pieces : List ℕ) (k : ℕ
   boxes_pieces = gathered_rows (piece (read_network f network) (read_sheet f sheet) (only k)) (box_at f.route network) (node_width f) (node_part network) (node_count network)
 
   boxes_are : F.boxes ≡ gathered (box_kept f network sheet entries pieces) (node_count network)
-  boxes_are = boxes_pieces ∙ gathered_ext _ _ (node_count network) (λ i l. sym (t.parted.row i l).is)
+  boxes_are = boxes_pieces ∙ gathered_ext _ _ (node_count network) (λ i l. sym (parted.row i l).is)
 
   boxes_count : length F.boxes ≡ count (keeps f network sheet k) (node_count network)
   unfolding keeps
@@ -61,7 +64,7 @@ module _ (f : Form) (network sheet entries fragments pieces : List ℕ) (k : ℕ
   -- an edge by its place, and the wire that it says
   reach : (j : ℕ) → j < edge_count network → only k (number (read_sheet f sheet) (wire_at network (edge_offset f network j)).to) ≡ reaches f network fragments k j
   unfolding wire_at edge_to
-  reach j l = sym (reaches_is f network sheet fragments t.tables.checked t.tables.numbered k j l)
+  reach j l = sym (reaches_is f network sheet fragments c m k j l)
 
   wires_are : F.wires ≡ gathered (wire_kept f network fragments k) (edge_count network)
   unfolding fragment_in fragment_of read_network edge_offset
@@ -86,19 +89,18 @@ module _ (f : Form) (network sheet entries fragments pieces : List ℕ) (k : ℕ
   module _ (nodes edges : ℕ) (p : nodes ≡ count (keeps f network sheet k) (node_count network)) (q : edges ≡ count (reaches f network fragments k) (edge_count network)) where
     pub nodes_fit : Fits w16 nodes
     nodes_fit =
-        let few = t.tables.checked.room.few in
-        let most = t.tables.checked.room.usable.few in
+        let few = c.room.few in
+        let most = c.room.usable.few in
         omega (arith, count_le (keeps f network sheet k) (node_count network))
 
     pub edges_fit : Fits w16 edges
-    edges_fit = let few = t.tables.checked.sound.few_edges in omega (arith, count_le (reaches f network fragments k) (edge_count network))
+    edges_fit = let few = c.sound.few_edges in omega (arith, count_le (reaches f network fragments k) (edge_count network))
 
     module _ (size : ℕ) (s : size ≡ size_of f (policy_count network) nodes edges) where
       pub fragment_parts_lem : FragmentParts f network sheet entries fragments pieces k size nodes edges
       unfolding node_bytes edge_bytes
       fragment_parts_lem =
-          let checked = t.tables.checked in
-          selected_parts f network checked.room.usable checked.bytes checked.sound F (box_kept f network sheet entries pieces) (node_count network)
+          selected_parts f network c.room.usable c.bytes c.sound F (box_kept f network sheet entries pieces) (node_count network)
           (wire_kept f network fragments k) (edge_count network) selected size nodes edges (p ∙ sym boxes_count) (q ∙ sym wires_count) s
 
       pub fragment_long : size ≡ length (write_network f F)
@@ -107,4 +109,4 @@ module _ (f : Form) (network sheet entries fragments pieces : List ℕ) (k : ℕ
       pub fragment_kept : (out : List ℕ) → length out < size → out ≡ placed (write_network f F) out
       fragment_kept out h = record_kept _ size _ _ _ _ fragment_parts_lem out h
 
-pub ruleset recording = (node_tables_lem, nodes_fit, edges_fit, fragment_parts_lem, fragment_long, fragment_kept)
+pub ruleset recording = (notes_of_own, nodes_fit, edges_fit, fragment_parts_lem, fragment_long, fragment_kept)

@@ -1,5 +1,5 @@
 -- Which bytes are kept of a row, as the code finds it.
---     keeping               the node in a row, by its part
+--     keeping               the node in a row, by what is kept of it
 --     reaching, offsets     an edge, by its to end; its offset in the loop
 use Prim.Native.Nat.{ℕ, ◌+◌, ◌-◌, ◌^◌, ◌≤◌, ◌<◌}
 use native.Mathlib.Omega.{arith}
@@ -29,56 +29,61 @@ use Rattle.reading.specs.Parts.{box_at, box_bytes, wire_at, wire_bytes}
 use Rattle.reading.proofs.Said.{box_id_at}
 use Rattle.marking.specs.Marks.{reaches}
 use Rattle.marking.specs.Pieces.{note_offset, note_in, with_promise, piece_of}
-use Rattle.records.specs.Checked.{CheckedNetwork}
+use Rattle.records.specs.Checked.{CheckedNetwork, CheckedEntries}
+use Rattle.records.specs.Entered.{EntryRows}
+use Rattle.marking.specs.declared.Kept.{Kept}
+use Rattle.marking.specs.declared.Kept.TheVariants.{Nothing, Stays, Promised, Assumed}
 use Rattle.marking.specs.Tables.{box_in}
 use Rattle.marking.proofs.MarkLaws.{to_room, to_there, edge_reaches}
 use Rattle.marking.proofs.Said.{own_box}
 use Rattle.writing.specs.Rows.{promised_at, NodeAt, OwnAt, RouteAt, EdgeAt}
 use Rattle.writing.proofs.RunLaws.{Laying, box_room, wire_room, lay_fits}
-use Rattle.laying.specs.Pieces.{node_bytes, edge_bytes, NodeTables}
+use Rattle.laying.specs.Pieces.{node_bytes, edge_bytes, NotesOfOwn}
 
-module _ (f : Form) (network sheet entries pieces : List ℕ) (t : NodeTables f network sheet entries pieces) (i : ℕ) (l : i < node_count network) where
+module _ (f : Form) (network sheet entries : List ℕ) (pieces : List Kept) (c : CheckedNetwork f network) (s : CheckedEntries f sheet_lead sheet)
+    (n : EntryRows f sheet_lead network sheet entries) (own : NotesOfOwn f network pieces) (i : ℕ) (l : i < node_count network) where
   abbrev w : ℕ
   w = f.route
 
-  abbrev part : ℕ
-  part = get_or pieces i 0
+  abbrev part : Kept
+  part = get_or pieces i Nothing
 
   abbrev run : List ℕ
   run = node_bytes f network sheet entries pieces i
 
-  pub as_none : part ≡ 0 → run ≡ []
+  pub as_none : part ≡ Nothing → run ≡ []
   unfolding node_bytes piece_of
   as_none z = rw z
 
-  pub promised_ours : part ≡ 2 → is_own f network i ≡ true
-  promised_ours z = t.ours i l (omega arith)
+  pub promised_ours : part ≡ Promised → is_own f network i ≡ true
+  unfolding NotesOfOwn
+  promised_ours z = own i l (rw z)
 
   -- the note of an own box is a route of the sheet
   module _ (note : ℕ) (q : note ≡ note_offset f entries i) where
     pub note_at : is_own f network i ≡ true → RouteAt f sheet note
     unfolding note_offset entry_ok entry_formed
-    note_at own =
+    note_at ours =
         let entry = get_or entries i 0 in
         let o = entry_offset f sheet_lead entry in
-        let l = (t.noted.row i l own).there in
-        let h = entry_room f sheet_lead sheet t.formed.room entry l in
-        let sound = and_r (leb (least (entry_id f sheet_lead sheet) entry) (entry_id f sheet_lead sheet entry)) (entry_formed f sheet_lead sheet o) (t.formed.formed.entries entry l) in
+        let l = (n.row i l ours).there in
+        let h = entry_room f sheet_lead sheet s.room entry l in
+        let sound = and_r (leb (least (entry_id f sheet_lead sheet) entry) (entry_id f sheet_lead sheet entry)) (entry_formed f sheet_lead sheet o) (s.formed.entries entry l) in
         let formed = and_r (fragment_formed f sheet_lead sheet o) (route_formed w sheet (o + 3)) sound in
-        record { usable = t.checked.room.usable; bytes = t.formed.bytes; there = rw q (omega arith); formed = rw q formed }
+        record { usable = c.room.usable; bytes = s.bytes; there = rw q (omega arith); formed = rw q formed }
 
   module _ (at : ℕ) (e : at ≡ node_offset f network i) where
     pub node_at : NodeAt f network at
     unfolding node_ok
     node_at =
-        let sound = and_r (leb (least (node_id f network) i) (node_id f network i)) (node_formed w network (node_offset f network i)) (t.checked.sound.nodes i l) in
-        record { usable = t.checked.room.usable; bytes = t.checked.bytes; there = rw e (node_room f network t.checked.room i l); formed = rw e sound }
+        let sound = and_r (leb (least (node_id f network) i) (node_id f network i)) (node_formed w network (node_offset f network i)) (c.sound.nodes i l) in
+        record { usable = c.room.usable; bytes = c.bytes; there = rw e (node_room f network c.room i l); formed = rw e sound }
 
-    pub as_whole : part ≡ 1 → run ≡ box_bytes w (box_at w network at)
+    pub as_whole : part ≡ Stays → run ≡ box_bytes w (box_at w network at)
     unfolding node_bytes piece_of box_in
     as_whole z = rw (z, e)
 
-    module _ (z : part ≡ 2) where
+    module _ (z : part ≡ Promised) where
       pub own_at : OwnAt f network at
       unfolding is_own
       own_at = record { node = node_at; ours = rw e (eqb-true _ _ (promised_ours z)) }
@@ -87,29 +92,30 @@ module _ (f : Form) (network sheet entries pieces : List ℕ) (t : NodeTables f 
       unfolding node_bytes piece_of promised_at node_id note_in
       as_promised note q = rw (z, q, e) (ap (λ (v : Box Route Demand). box_bytes w (with_promise v (note_in f sheet entries i))) (own_box f network i (promised_ours z)))
 
-  module _ (x : part ≡ 0 → ⊥) (y : part ≡ 1 → ⊥) (z : part ≡ 2 → ⊥) where
+  module _ (z : part ≡ Assumed) where
     pub assumed_ours : is_own f network i ≡ true
-    assumed_ours = t.ours i l (omega arith)
+    unfolding NotesOfOwn
+    assumed_ours = own i l (rw z)
 
     pub as_assumed : (id note : ℕ) → id ≡ node_id f network i → note ≡ note_offset f entries i → run ≡ box_bytes w (input (record { id = id; assumed = route_at w sheet note }))
     unfolding node_bytes piece_of box_in node_id note_in
     as_assumed id note e q =
-        rw (ne_eqb part 0 x, ne_eqb part 1 y, ne_eqb part 2 z, e, q)
+        rw (z, e, q)
         (ap (λ (n : ℕ). box_bytes w (input (record { id = n; assumed = note_in f sheet entries i }))) (box_id_at w network (node_offset f network i)))
 
   -- a node is as wide, whatever is kept of it
   module _ (out : List ℕ) (h : length run ≤ length out) where
     fits : (v : Box Route Demand) → run ≡ box_bytes w v → node_width f ≤ length out
-    fits v e = box_room run out h f v e t.checked.room.usable
+    fits v e = box_room run out h f v e c.room.usable
 
-    pub whole_room : part ≡ 1 → node_width f ≤ length out
+    pub whole_room : part ≡ Stays → node_width f ≤ length out
     whole_room z = fits _ (as_whole _ refl z)
 
-    pub promised_room : part ≡ 2 → node_width f ≤ length out
+    pub promised_room : part ≡ Promised → node_width f ≤ length out
     promised_room z = fits _ (as_promised _ refl z _ refl)
 
-    pub assumed_room : (part ≡ 0 → ⊥) → (part ≡ 1 → ⊥) → (part ≡ 2 → ⊥) → node_width f ≤ length out
-    assumed_room x y z = fits _ (as_assumed x y z _ _ refl refl)
+    pub assumed_room : part ≡ Assumed → node_width f ≤ length out
+    assumed_room z = fits _ (as_assumed z _ _ refl refl)
 
 pub ruleset keeping = (as_none, promised_ours, note_at, node_at, as_whole, whole_room, own_at, as_promised, promised_room, assumed_ours, as_assumed, assumed_room)
 
@@ -146,7 +152,7 @@ pub ruleset offsets = (edge_on, edge_sum)
 
 -- the next row fits in what remains
 module _ (f : Form) (network : List ℕ) (n : ℕ) (out₀ out : List ℕ) (i o : ℕ) where
-  pub node_fits : (sheet entries pieces : List ℕ) → Laying (node_bytes f network sheet entries pieces) (node_count network) out₀ out i o
+  pub node_fits : (sheet entries : List ℕ) (pieces : List Kept) → Laying (node_bytes f network sheet entries pieces) (node_count network) out₀ out i o
       → length (joined (node_bytes f network sheet entries pieces) (node_count network)) ≤ length out₀ → n ≡ node_count network → i < n
       → length (node_bytes f network sheet entries pieces i) ≤ length (take (length out - o) (drop o out))
   node_fits sheet entries pieces = lay_fits (node_bytes f network sheet entries pieces) (node_count network) n out₀ out i o

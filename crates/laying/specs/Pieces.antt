@@ -2,8 +2,8 @@
 --     node_bytes, edge_bytes        what is kept of a node, of an edge
 --     nodes_in, edges_in            the nodes and the edges
 --     fragment_in, FragmentParts   the fragment that they say, and its record
---     NodeTables, PieceTables          what the nodes' writer stands on; what all of them do
-use Rattle.std.specs.Prelude.{ℕ, ◌≤◌, ◌<◌, true, cond, List, ◌≡◌, get_or}
+--     NotesOfOwn                    what the nodes' writer stands on
+use Rattle.std.specs.Prelude.{ℕ, ◌<◌, true, cond, List, ◌≡◌, get_or}
 use Rattle.std.proofs.Math.Option.{Option, none, some}
 use Rattle.lists.specs.Gather.{joined, laid_option}
 use Rattle.routes.specs.declared.Demand.{Demand}
@@ -16,19 +16,17 @@ use Rattle.layout.specs.declared.Form.{Form}
 use Rattle.reading.specs.Parts.{box_bytes, wire_at, wire_bytes}
 use Rattle.reading.specs.Whole.{HouseNetwork, read_network, read_sheet, write_network}
 use Rattle.marking.specs.Marks.{reaches}
-use Rattle.marking.specs.Pieces.{piece_of, Pieces}
-use Rattle.records.specs.Checked.{CheckedNetwork, CheckedEntries}
-use Rattle.records.specs.Entered.{EntryRows}
-use Rattle.marking.specs.Tables.{RowTables}
+use Rattle.marking.specs.Pieces.{piece_of, with_note}
+use Rattle.marking.specs.declared.Kept.{Kept}
+use Rattle.marking.specs.declared.Kept.TheVariants.{Nothing}
 use Rattle.writing.specs.Heads.{head_bytes, policies_in}
 use Rattle.writing.specs.Parts.{Parts}
-use Rattle.layout.specs.Form.{sheet_lead}
 
--- what is kept of the node in row i, by its part
-abbrev pub box_kept : Form → List ℕ → List ℕ → List ℕ → List ℕ → ℕ → Option (Box Route Demand)
-box_kept f network sheet entries pieces i = piece_of f network sheet entries i (get_or pieces i 0)
+-- what is kept of the node in row i, by the table
+abbrev pub box_kept : Form → List ℕ → List ℕ → List ℕ → List Kept → ℕ → Option (Box Route Demand)
+box_kept f network sheet entries pieces i = piece_of f network sheet entries i (get_or pieces i Nothing)
 
-unfoldable pub node_bytes : Form → List ℕ → List ℕ → List ℕ → List ℕ → ℕ → List ℕ
+unfoldable pub node_bytes : Form → List ℕ → List ℕ → List ℕ → List Kept → ℕ → List ℕ
 node_bytes f network sheet entries pieces i = laid_option (box_bytes f.route) (box_kept f network sheet entries pieces i)
 
 -- the j-th edge, where its to end has number k
@@ -39,7 +37,7 @@ unfoldable pub edge_bytes : Form → List ℕ → List ℕ → ℕ → ℕ → L
 edge_bytes f network fragments k j = laid_option wire_bytes (wire_kept f network fragments k j)
 
 -- the nodes and the edges, one behind another
-abbrev pub nodes_in : Form → List ℕ → List ℕ → List ℕ → List ℕ → List ℕ
+abbrev pub nodes_in : Form → List ℕ → List ℕ → List ℕ → List Kept → List ℕ
 nodes_in f network sheet entries pieces = joined (node_bytes f network sheet entries pieces) (node_count network)
 
 abbrev pub edges_in : Form → List ℕ → List ℕ → ℕ → List ℕ
@@ -50,18 +48,10 @@ unfoldable pub fragment_in : Form → List ℕ → List ℕ → ℕ → HouseNet
 fragment_in f network sheet k = fragment (read_network f network) (read_sheet f sheet) k
 
 -- its record is what is laid down, with these counts of nodes and edges
-abbrev pub FragmentParts : Form → List ℕ → List ℕ → List ℕ → List ℕ → List ℕ → ℕ → ℕ → ℕ → ℕ → Type 0
+abbrev pub FragmentParts : Form → List ℕ → List ℕ → List ℕ → List ℕ → List Kept → ℕ → ℕ → ℕ → ℕ → Type 0
 FragmentParts f network sheet entries fragments pieces k size nodes edges = Parts (write_network f (fragment_in f network sheet k)) size
     (head_bytes f.version size nodes edges (policy_count network)) (policies_in network) (nodes_in f network sheet entries pieces) (edges_in f network fragments k)
 
--- Two records that are not refused, with their entries, and parts that keep no note of an input.
-pub record NodeTables (f : Form) (network sheet entries pieces : List ℕ) : Type 0 where
-  pub checked : CheckedNetwork f network
-  pub formed : CheckedEntries f sheet_lead sheet
-  pub noted : EntryRows f sheet_lead network sheet entries
-  pub ours : (i : ℕ) → i < node_count network → 2 ≤ get_or pieces i 0 → is_own f network i ≡ true
-
--- the tables of all rows, and the parts that make fragment k
-pub record PieceTables (f : Form) (network sheet entries fragments pieces : List ℕ) (k : ℕ) : Type 0 where
-  pub tables : RowTables f network sheet entries fragments
-  pub parted : Pieces f network sheet entries k pieces
+-- a note is kept of own boxes only
+unfoldable pub NotesOfOwn : Form → List ℕ → List Kept → Type 0
+NotesOfOwn f network pieces = (i : ℕ) → i < node_count network → with_note (get_or pieces i Nothing) ≡ true → is_own f network i ≡ true

@@ -1,61 +1,39 @@
 // The nodes and the edges of the fragment, one behind another: the writer of each is lent what remains of the buffer.
 ghost use Rattle.std.specs.Prelude.{◌≡◌, ◌≤◌, length};
 ghost use Rattle.lists.specs.Laid.{over};
-ghost use Rattle.layout.specs.Layout.{node_count, edge_count};
-ghost use Rattle.records.specs.Rows.{Filled};
-ghost use Rattle.records.specs.Checked.{CheckedNetwork};
-ghost use Rattle.laying.specs.Pieces.{node_bytes, edge_bytes, NodeTables, nodes_in, edges_in};
+ghost use Rattle.laying.specs.Pieces.{NotesOfOwn};
+ghost use Rattle.laying.specs.Records.{nodes_of, edges_of};
 
 use crate::rows::{lay_edge, lay_node};
-use layout::{EDGE_WIDTH, EDGES_FIELD, Form, NODES_FIELD, ROWS, edge_offset};
+use layout::{EDGE_WIDTH, EDGES_FIELD, NODES_FIELD, ROWS, edge_offset};
+use marking::{Entered, Kept, Wires};
 use numbers::u16_at;
 
 // The nodes. Answers how many bytes they are.
-pub fn lay_nodes(
-    form: Form,
-    network: &[u8],
-    sheet: &[u8],
-    entries: &[u16; ROWS],
-    pieces: &[u8; ROWS],
-    out: &mut [u8],
-) -> usize
-    requires node_tables { NodeTables form network.now sheet.now entries.now pieces.now }
-    requires room { length (nodes_in form network.now sheet.now entries.now pieces.now) ≤ length out.old }
-    ensures size { result ≡ length (nodes_in form network.now sheet.now entries.now pieces.now) }
-    ensures laid { out.new ≡ over (nodes_in form network.now sheet.now entries.now pieces.now) out.old }
+pub fn lay_nodes(entered: Entered, pieces: &[Kept; ROWS], out: &mut [u8]) -> usize
+    requires notes { NotesOfOwn entered.form entered.network.now pieces.now }
+    requires room { length (nodes_of entered pieces.now) ≤ length out.old }
+    ensures size { result ≡ length (nodes_of entered.entry pieces.now) }
+    ensures laid { out.new ≡ over (nodes_of entered.entry pieces.now) out.old }
 {
-    let n = u16_at(network, NODES_FIELD) as usize;
+    let n = usize::from(u16_at(entered.network, NODES_FIELD));
     let mut o = 0;
-    let mut i = 0;
-    while i < n {
-        let size = lay_node(form, network, sheet, entries, pieces, i, &mut out[o..]);
-        o += size;
-        i += 1;
+    for i in 0..n {
+        o += lay_node(entered, pieces, i, &mut out[o..]);
     }
     o
 }
 
 // The edges.
-pub fn lay_edges(
-    form: Form,
-    network: &[u8],
-    rows: &[u16; 65536],
-    fragments: &[u8; ROWS],
-    k: u8,
-    out: &mut [u8],
-)
-    requires checked_network { CheckedNetwork form network.now × Filled form network.now rows.now }
-    requires room { length (edges_in form network.now fragments.now k) ≤ length out.old }
-    ensures { out.new ≡ over (edges_in form network.now fragments.now k) out.old }
+pub fn lay_edges(wires: Wires, out: &mut [u8])
+    requires { length (edges_of wires) ≤ length out.old }
+    ensures { out.new ≡ over (edges_of wires.entry) out.old }
 {
-    let n = u16_at(network, EDGES_FIELD) as usize;
+    let n = usize::from(u16_at(wires.network, EDGES_FIELD));
     let mut o = 0;
-    let mut j = 0;
-    let mut at = edge_offset(form, network, 0);
-    while j < n {
-        let size = lay_edge(form, network, rows, fragments, k, j, at, &mut out[o..]);
-        o += size;
+    let mut at = edge_offset(wires.form, wires.network, 0);
+    for j in 0..n {
+        o += lay_edge(wires, j, at, &mut out[o..]);
         at += EDGE_WIDTH;
-        j += 1;
     }
 }

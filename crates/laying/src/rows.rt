@@ -3,65 +3,63 @@
 ghost use Rattle.std.specs.Prelude.{◌≡◌, ◌≤◌, ◌<◌, length};
 ghost use Rattle.lists.specs.Laid.{over};
 ghost use Rattle.layout.specs.Layout.{node_count, edge_count, edge_offset};
-ghost use Rattle.records.specs.Rows.{Filled};
-ghost use Rattle.records.specs.Checked.{CheckedNetwork};
-ghost use Rattle.laying.specs.Pieces.{node_bytes, edge_bytes, NodeTables};
+ghost use Rattle.laying.specs.Pieces.{NotesOfOwn};
+ghost use Rattle.laying.specs.Records.{node_of, edge_of};
 
-use layout::{Form, ROWS, node_offset};
-use marking::note_offset;
+use layout::{ROWS, node_offset};
+use marking::{Entered, Kept, Wires};
 use nodes::node_id;
 use numbers::u16_at;
 use records::row_in;
 use writing::{put_edge, put_input, put_node, put_promised};
 
-// The node in row i, by its part.
-pub fn lay_node(
-    form: Form,
-    network: &[u8],
-    sheet: &[u8],
-    entries: &[u16; ROWS],
-    pieces: &[u8; ROWS],
-    i: usize,
-    out: &mut [u8],
-) -> usize
-    requires node_tables { NodeTables form network.now sheet.now entries.now pieces.now }
-    requires i_bound { (i < node_count network.now) × (length (node_bytes form network.now sheet.now entries.now pieces.now i) ≤ length out.old) }
-    ensures size { result ≡ length (node_bytes form network.now sheet.now entries.now pieces.now i) }
-    ensures laid { out.new ≡ over (node_bytes form network.now sheet.now entries.now pieces.now i) out.old }
+// The node in row i, by what is kept of it.
+pub fn lay_node(entered: Entered, pieces: &[Kept; ROWS], i: usize, out: &mut [u8]) -> usize
+    requires notes { NotesOfOwn entered.form entered.network.now pieces.now }
+    requires i_bound { i < node_count entered.network.now }
+    requires room { length (node_of entered pieces.now i) ≤ length out.old }
+    ensures size { result ≡ length (node_of entered.entry pieces.now i) }
+    ensures laid { out.new ≡ over (node_of entered.entry pieces.now i) out.old }
 {
+    let form = entered.form;
+    let network = entered.network;
     let at = node_offset(form, network, i);
     match pieces[i] {
-        0 => 0,
-        1 => put_node(form, network, at, out),
-        2 => {
-            let note = note_offset(form, network, sheet, entries, i);
-            put_promised(form, network, at, sheet, note, out)
-        }
-        _ => {
-            let note = note_offset(form, network, sheet, entries, i);
-            put_input(form, node_id(form, network, i), sheet, note, out)
-        }
+        Kept::Nothing => 0,
+        Kept::Stays => put_node(form, network, at, out),
+        Kept::Promised => put_promised(
+            form,
+            network,
+            at,
+            entered.sheet,
+            entered.note_offset(i),
+            out,
+        ),
+        Kept::Assumed => put_input(
+            form,
+            node_id(form, network, i),
+            entered.sheet,
+            entered.note_offset(i),
+            out,
+        ),
     }
 }
 
 // The j-th edge, which stands at an offset, where its to end is in the fragment.
-pub fn lay_edge(
-    form: Form,
-    network: &[u8],
-    rows: &[u16; 65536],
-    fragments: &[u8; ROWS],
-    k: u8,
-    j: usize,
-    at: usize,
-    out: &mut [u8],
-) -> usize
-    requires checked_network { CheckedNetwork form network.now × Filled form network.now rows.now }
-    requires j_bound { (j < edge_count network.now) × (at ≡ edge_offset form network.now j) × (length (edge_bytes form network.now fragments.now k j) ≤ length out.old) }
-    ensures size { result ≡ length (edge_bytes form network.now fragments.now k j) }
-    ensures laid { out.new ≡ over (edge_bytes form network.now fragments.now k j) out.old }
+pub fn lay_edge(wires: Wires, j: usize, at: usize, out: &mut [u8]) -> usize
+    requires j_bound { (j < edge_count wires.network.now) × (at ≡ edge_offset wires.form wires.network.now j) }
+    requires room { length (edge_of wires j) ≤ length out.old }
+    ensures size { result ≡ length (edge_of wires.entry j) }
+    ensures laid { out.new ≡ over (edge_of wires.entry j) out.old }
 {
-    if fragments[row_in(form, network, rows, u16_at(network, at))] != k {
+    let to = row_in(
+        wires.form,
+        wires.network,
+        wires.rows,
+        u16_at(wires.network, at),
+    );
+    if wires.fragments[to] != wires.k {
         return 0;
     }
-    put_edge(network, at, out)
+    put_edge(wires.network, at, out)
 }

@@ -15,6 +15,7 @@ use native.Mathlib.Numerals.{add-one}
 use native.Mathlib.Omega.{arith}
 use lib.ListN.{length, get_or, length-append, set, length-set}
 use lib.Seq.{get_or-set_same, get_or-set_other}
+use mir.Val.{bool_byte}
 use Rattle.lists.specs.Filter.{filter, holds}
 use Rattle.lists.specs.Rows.{rows, laid_rows}
 use Rattle.lists.specs.Stride.{at}
@@ -80,6 +81,15 @@ count_none test = refl
 pub count_next : (test : ℕ → Bool) (i : ℕ) → count test (i + 1) ≡ count test i + cond (test i) 1 0
 unfolding count
 count_next test i = rw (add-one i) refl
+
+-- a test as a number to count with
+pub count_one : (t : Bool) → bool_byte t ≡ cond t 1 0
+count_one true = refl
+count_one false = refl
+
+pub count_most : (t : Bool) → bool_byte t ≤ 1
+count_most true = omega arith
+count_most false = omega arith
 
 pub count_front : (test : ℕ → Bool) (n : ℕ) → count test (suc n) ≡ cond (test 0) 1 0 + count (λ k. test (suc k)) n
 unfolding count

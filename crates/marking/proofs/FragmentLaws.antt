@@ -101,7 +101,7 @@ fragments_numbered f network sheet n fragments c e d =
     let few = c.room.few in
     let most = c.room.usable.few in
     record {
-      row = λ i l. rw d (after_stored (row_fragment f network sheet) (replicate 1024 0) n (omega (arith, length-replicate {A = ℕ} 1024 0)) i (omega arith));
+      row = λ i l. rw d (after_stored (row_fragment f network sheet) 0 (replicate 1024 0) n (omega (arith, length-replicate {A = ℕ} 1024 0)) i (omega arith));
     }
 
 -- whether a row is an own one of fragment k

@@ -3,15 +3,15 @@
 --     markings              the ways on of the loop over the edges
 use Prim.Native.Nat.{ℕ, ◌+◌, ◌^◌, ◌≤◌, ◌<◌}
 use native.Mathlib.Omega.{arith}
-use mathlib.Core.Bool.{Bool, true, false, cond, not}
+use mathlib.Core.Bool.{Bool, true, cond, not}
 use mathlib.Core.List.{List}
 use mathlib.Core.Path.{◌≡◌, sym, ◌∙◌}
 use lib.Dec.{eqb}
 use lib.ListN.{length, get_or, set}
 use mir.Syntax.{w64}
-use mir.Val.{Fits}
+use mir.Val.{Fits, bool_byte}
 use Rattle.lists.specs.Gather.{count, table_after}
-use Rattle.lists.proofs.Gather.{after_none, after_next, count_none, count_next, count_le}
+use Rattle.lists.proofs.Gather.{after_none, after_next, count_none, count_next, count_one, count_most, count_le}
 use Rattle.numbers.specs.BigEndian.{u16_at}
 use Rattle.records.specs.Edge.{boxed, owned, edge_to, edge_from}
 use Rattle.layout.specs.Layout.{edge_count, edge_offset}
@@ -23,13 +23,6 @@ use Rattle.reading.proofs.Said.{Edge, edge_parts}
 use Rattle.lists.proofs.Test.{and_l}
 use Rattle.marking.specs.Marks.{to_fragment, from_fragment, crosses, reaches}
 use Rattle.records.specs.Checked.{CheckedNetwork}
-
--- the two ways of a mark
-pub mark_yes : (marks : List ℕ) (row : ℕ) (t : Bool) → t ≡ true → set marks row 1 ≡ cond t (set marks row 1) marks
-mark_yes marks row t y = rw y
-
-pub mark_no : (marks : List ℕ) (row : ℕ) (t : Bool) → t ≡ false → marks ≡ cond t (set marks row 1) marks
-mark_no marks row t y = rw y
 
 -- one edge
 module _ (f : Form) (network : List ℕ) (c : CheckedNetwork f network) (j at : ℕ) (l : j < edge_count network) (e : at ≡ edge_offset f network j) where
@@ -109,16 +102,9 @@ module _ (f : Form) (network fragments : List ℕ) (k n : ℕ) (leaves₀ feeds�
       pub marking_at : n ≡ edge_count network → CheckedNetwork f network → length network < 2 ^ 64 → Fits w64 (at + 5)
       marking_at e c g = let p = h.here in omega (arith, edge_room f network c.room j (omega arith))
 
-      module _ (t : Bool) (one : ℕ) (q : t ≡ reaches f network fragments k j) (o : one ≡ cond t 1 0) where
-        one_small : one ≤ 1
-        one_small = go t o
-          where
-            go : (t : Bool) → one ≡ cond t 1 0 → one ≤ 1
-            go true p = omega arith
-            go false p = omega arith
-
+      module _ (t : Bool) (one : ℕ) (q : t ≡ reaches f network fragments k j) (o : one ≡ bool_byte t) where
         pub marking_kept : Fits w64 n → Fits w64 (kept + one)
-        marking_kept g = let s = one_small in let p = h.counted in omega (arith, count_le (reaches f network fragments k) j)
+        marking_kept g = let s = count_most t in let p = h.counted in omega (arith, count_le (reaches f network fragments k) j)
 
         pub marking_next : (leaves' feeds' : List ℕ) → leaves' ≡ marked_by f network (crosses f network fragments) j leaves
             → feeds' ≡ marked_by f network (reaches f network fragments k) j feeds → Marking f network fragments k n (j + 1) (at + 5) (kept + one) leaves₀ feeds₀ leaves' feeds'
@@ -127,7 +113,7 @@ module _ (f : Form) (network fragments : List ℕ) (k n : ℕ) (leaves₀ feeds�
             record {
               within = omega arith;
               here = omega (arith, edge_after f network j);
-              counted = rw (h.counted, o, q) (sym (count_next (reaches f network fragments k) j));
+              counted = rw (h.counted, o, count_one t, q) (sym (count_next (reaches f network fragments k) j));
               left = after_next (marked_by f network (crosses f network fragments)) leaves₀ j leaves leaves' h.left a;
               fed = after_next (marked_by f network (reaches f network fragments k)) feeds₀ j feeds feeds' h.fed b;
             }

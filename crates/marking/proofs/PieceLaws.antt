@@ -1,6 +1,6 @@
 -- What the fragment keeps of a row.
---     classifying           the code of one row, as the marks tell it
---     piece_is              what the code says
+--     classifying           what is kept of one row, as the marks tell it
+--     piece_is              and that it is what the fragment keeps
 --     classifications       the loop over the rows
 --     pieces_made           what the table of all rows holds
 use Prim.Native.Nat.{ℕ, ◌+◌, ◌≤◌, ◌<◌}
@@ -13,10 +13,10 @@ use lib.Dec.{eqb}
 use lib.ListN.{get_or, set, replicate, length-replicate}
 use borrow.Author.Tests.{eqb-true, eqb-false, eq-eqb, ne_eqb, not-true, not-false}
 use mir.Syntax.{w64}
-use mir.Val.{Fits}
+use mir.Val.{Fits, bool_byte}
 use Rattle.lists.specs.Filter.{holds}
 use Rattle.lists.specs.Gather.{count, table_after}
-use Rattle.lists.proofs.Gather.{after_none, after_next, after_stored, count_none, count_next, count_le}
+use Rattle.lists.proofs.Gather.{after_none, after_next, after_stored, count_none, count_next, count_one, count_most, count_le}
 use Rattle.routes.specs.declared.Demand.{Demand}
 use Rattle.routes.specs.declared.Route.{Route}
 use Rattle.networks.specs.Cut.{leaves, feeds, only, promised}
@@ -27,9 +27,12 @@ use Rattle.nodes.specs.Node.{node_id, is_own, promising}
 use Rattle.layout.specs.declared.Form.{Form}
 use Rattle.reading.specs.Whole.{HouseNetwork, HouseSheet, read_network, read_sheet}
 use Rattle.marking.specs.Marks.{Leaving, Feeding}
-use Rattle.marking.specs.Pieces.{note_in, piece_in, keeps, with_promise, assumed_box, piece_code, with_piece, piece_of, Piece, Pieces}
+use Rattle.marking.specs.declared.pieces.Kept.{Kept}
+use Rattle.marking.specs.declared.pieces.Kept.TheVariants.{Nothing, Stays, Promised, Assumed}
+use Rattle.marking.specs.Pieces.{note_in, piece_in, keeps, kept_in, with_piece, piece_of, Piece, Pieces, some_kept}
 use Rattle.records.specs.Entered.{EntryRows}
-use Rattle.marking.specs.Tables.{box_in, row_fragment, Numbered, RowTables}
+use Rattle.marking.specs.Tables.{row_fragment, Numbered}
+use Rattle.records.specs.Checked.{CheckedNetwork}
 use Rattle.reading.specs.Rows.{own_in}
 use Rattle.marking.proofs.Said.{own_box, input_box}
 use Rattle.marking.proofs.RowLaws.{node_there, noted, own_piece, other_piece}
@@ -40,8 +43,13 @@ use Rattle.layout.specs.Form.{sheet_lead}
 
 -- a promise stays where no cut wire leaves
 promised_stays : (p note : Option Route) → promised p false note ≡ p
-promised_stays none note = refl
-promised_stays (some q) note = refl
+promised_stays none n = refl
+promised_stays (some q) n = refl
+
+-- what is kept where a row is marked
+marked : (v : ℕ) (t : Bool) → v ≡ cond t 1 0 → (kept : Kept) → cond (eqb v 0) Nothing kept ≡ cond t kept Nothing
+marked v true e kept = rw e
+marked v false e kept = rw e
 
 module _ (f : Form) (network sheet : List ℕ) (i : ℕ) (l : i < node_count network) (k : ℕ) where
   abbrev N : HouseNetwork
@@ -50,35 +58,32 @@ module _ (f : Form) (network sheet : List ℕ) (i : ℕ) (l : i < node_count net
   abbrev S : HouseSheet
   S = read_sheet f sheet
 
-  -- the code by the tables
+  -- the way by the tables
   module _ (own? : Bool) (e : own? ≡ is_own f network i) where
-    pub code_input : (fed : List ℕ) → not own? ≡ true → Feeding f network sheet k fed → get_or fed i 0 ≡ piece_code f network sheet k i
-    unfolding piece_code Feeding
-    code_input fed y m = rw (← e, not-true own? y) (m i l)
+    pub kept_input : (fed : List ℕ) → not own? ≡ true → Feeding f network sheet k fed → cond (eqb (get_or fed i 0) 0) Nothing Stays ≡ kept_in f network sheet k i
+    unfolding kept_in Feeding
+    kept_input fed y m = rw (← e, not-true own? y) (marked (get_or fed i 0) (feeds N S (only k) (node_id f network i)) (m i l) Stays)
 
     module _ (y : not own? ≡ false) (fragments : List ℕ) (m : Numbered f network sheet fragments) where
       module _ (d : get_or fragments i 0 ≡ k → ⊥) (fed : List ℕ) (g : Feeding f network sheet k fed) where
-        pub code_other : get_or fed i 0 ≡ 0 → 0 ≡ piece_code f network sheet k i
-        unfolding piece_code Feeding
-        code_other z = rw (← e, not-false own? y, ne_eqb (row_fragment f network sheet i) k (λ q. d (m.row i l ∙ q)), mark_zero (get_or fed i 0) (feeds N S (only k) (node_id f network i)) (g i l) z)
-
-        pub code_assumed : (get_or fed i 0 ≡ 0 → ⊥) → 3 ≡ piece_code f network sheet k i
-        unfolding piece_code Feeding
-        code_assumed z = rw (← e, not-false own? y, ne_eqb (row_fragment f network sheet i) k (λ q. d (m.row i l ∙ q)), mark_one (get_or fed i 0) (feeds N S (only k) (node_id f network i)) (g i l) z)
+        pub kept_other : cond (eqb (get_or fed i 0) 0) Nothing Assumed ≡ kept_in f network sheet k i
+        unfolding kept_in Feeding
+        kept_other = rw (← e, not-false own? y, ne_eqb (row_fragment f network sheet i) k (λ q. d (m.row i l ∙ q)))
+            (marked (get_or fed i 0) (feeds N S (only k) (node_id f network i)) (g i l) Assumed)
 
       module _ (q : get_or fragments i 0 ≡ k) (marks : List ℕ) (g : Leaving f network sheet marks) where
         left? : get_or marks i 0 ≡ cond (leaves N S (node_id f network i)) 1 0
         unfolding Leaving
         left? = g i l (sym e ∙ not-false own? y)
 
-        pub code_stays : get_or marks i 0 ≡ 0 → 1 ≡ piece_code f network sheet k i
-        unfolding piece_code
-        code_stays z = rw (← e, not-false own? y, eq-eqb (row_fragment f network sheet i) k (sym (m.row i l) ∙ q), mark_zero (get_or marks i 0) (leaves N S (node_id f network i)) left? z)
+        pub kept_stays : get_or marks i 0 ≡ 0 → Stays ≡ kept_in f network sheet k i
+        unfolding kept_in
+        kept_stays z = rw (← e, not-false own? y, eq-eqb (row_fragment f network sheet i) k (sym (m.row i l) ∙ q), mark_zero (get_or marks i 0) (leaves N S (node_id f network i)) left? z)
 
         module _ (p : Bool) (o : ℕ) (r : o ≡ node_offset f network i) (s : p ≡ promising f.route network o) where
-          pub code_promised : p ≡ true → 1 ≡ piece_code f network sheet k i
-          unfolding piece_code
-          code_promised z = rw (
+          pub kept_promised : p ≡ true → Stays ≡ kept_in f network sheet k i
+          unfolding kept_in
+          kept_promised z = rw (
             ← e,
             not-false own? y,
             eq-eqb (row_fragment f network sheet i) k (sym (m.row i l) ∙ q),
@@ -88,21 +93,21 @@ module _ (f : Form) (network sheet : List ℕ) (i : ℕ) (l : i < node_count net
             and-false (leaves N S (node_id f network i)),
           )
 
-          pub code_noted : (get_or marks i 0 ≡ 0 → ⊥) → p ≡ false → 2 ≡ piece_code f network sheet k i
-          unfolding piece_code
-          code_noted d z = rw (← e, not-false own? y, eq-eqb (row_fragment f network sheet i) k (sym (m.row i l) ∙ q), mark_one (get_or marks i 0) (leaves N S (node_id f network i)) left? d, ← r, ← s, z)
+          pub kept_noted : (get_or marks i 0 ≡ 0 → ⊥) → p ≡ false → Promised ≡ kept_in f network sheet k i
+          unfolding kept_in
+          kept_noted d z = rw (← e, not-false own? y, eq-eqb (row_fragment f network sheet i) k (sym (m.row i l) ∙ q), mark_one (get_or marks i 0) (leaves N S (node_id f network i)) left? d, ← r, ← s, z)
 
-  -- what the code says
+  -- what is kept
   module _ (found : List ℕ) where
     -- an input is kept as it stands where it feeds the fragment
-    input_piece : is_own f network i ≡ false → (t : Bool) → feeds N S (only k) (node_id f network i) ≡ t → Piece f network sheet found k i (cond t 1 0)
+    input_piece : is_own f network i ≡ false → (t : Bool) → feeds N S (only k) (node_id f network i) ≡ t → Piece f network sheet found k i (cond t Stays Nothing)
     unfolding piece_of piece_in
-    input_piece foreign true q = record { is = rw (input_box f network i foreign, q); ours = λ h. absurd (omega arith) }
-    input_piece foreign false q = record { is = rw (input_box f network i foreign, q); ours = λ h. absurd (omega arith) }
+    input_piece foreign true q = record { is = rw (input_box f network i foreign, q); ours = λ h. absurd (cc) }
+    input_piece foreign false q = record { is = rw (input_box f network i foreign, q); ours = λ h. absurd (cc) }
 
     module _ (n : EntryRows f sheet_lead network sheet found) (mine : is_own f network i ≡ true) where
       -- an own node of another fragment: an input that assumes the note, where it feeds this one
-      fed_piece : (number S (node_id f network i) ≡ k → ⊥) → (t : Bool) → feeds N S (only k) (node_id f network i) ≡ t → Piece f network sheet found k i (cond t 3 0)
+      fed_piece : (number S (node_id f network i) ≡ k → ⊥) → (t : Bool) → feeds N S (only k) (node_id f network i) ≡ t → Piece f network sheet found k i (cond t Assumed Nothing)
       unfolding piece_of
       fed_piece d true q = record { is = sym (other_piece f network sheet found i l mine n k d ∙ rw (q, own_box f network i mine)); ours = λ h. mine }
       fed_piece d false q = record { is = sym (other_piece f network sheet found i l mine n k d ∙ rw q); ours = λ h. mine }
@@ -114,12 +119,12 @@ module _ (f : Form) (network sheet : List ℕ) (i : ℕ) (l : i < node_count net
         kept p h = own_piece f network sheet found i l mine n k q ∙ rw h
 
         whole : promised (own_in f network i).promise (leaves N S (node_id f network i)) (note S (node_id f network i)) ≡ (own_in f network i).promise
-            → Piece f network sheet found k i 1
+            → Piece f network sheet found k i Stays
         unfolding piece_of
         whole h = record { is = sym (kept (own_in f network i).promise h ∙ rw (own_box f network i mine)); ours = λ z. mine }
 
         held_piece : (left says : Bool) → leaves N S (node_id f network i) ≡ left → says ≡ promising f.route network (node_offset f network i)
-            → Piece f network sheet found k i (cond (left && not says) 2 1)
+            → Piece f network sheet found k i (cond (left && not says) Promised Stays)
         unfolding piece_of
         held_piece false says a b = whole (rw a (promised_stays (own_in f network i).promise (note S (node_id f network i))))
         held_piece true true a b = whole (rw (promise_some f.route network (node_offset f network i) true b refl))
@@ -130,36 +135,36 @@ module _ (f : Form) (network sheet : List ℕ) (i : ℕ) (l : i < node_count net
         }
 
       own_piece_is : (t : Bool) → eqb (number S (node_id f network i)) k ≡ t → Piece f network sheet found k i (cond t
-          (cond (leaves N S (node_id f network i) && not (promising f.route network (node_offset f network i))) 2 1)
-          (cond (feeds N S (only k) (node_id f network i)) 3 0))
+          (cond (leaves N S (node_id f network i) && not (promising f.route network (node_offset f network i))) Promised Stays)
+          (cond (feeds N S (only k) (node_id f network i)) Assumed Nothing))
       own_piece_is true q = held_piece (eqb-true _ _ q) (leaves N S (node_id f network i)) (promising f.route network (node_offset f network i)) refl refl
       own_piece_is false q = fed_piece (eqb-false _ _ q) (feeds N S (only k) (node_id f network i)) refl
 
-    pub piece_is : EntryRows f sheet_lead network sheet found → Piece f network sheet found k i (piece_code f network sheet k i)
-    unfolding piece_code row_fragment
+    pub piece_is : EntryRows f sheet_lead network sheet found → Piece f network sheet found k i (kept_in f network sheet k i)
+    unfolding kept_in row_fragment
     piece_is n = go (is_own f network i) refl
       where
         go : (o : Bool) → is_own f network i ≡ o → Piece f network sheet found k i (cond o
             (cond (eqb (cond o (number S (node_id f network i)) 64) k)
-            (cond (leaves N S (node_id f network i) && not (promising f.route network (node_offset f network i))) 2 1)
-            (cond (feeds N S (only k) (node_id f network i)) 3 0))
-            (cond (feeds N S (only k) (node_id f network i)) 1 0))
+            (cond (leaves N S (node_id f network i) && not (promising f.route network (node_offset f network i))) Promised Stays)
+            (cond (feeds N S (only k) (node_id f network i)) Assumed Nothing))
+            (cond (feeds N S (only k) (node_id f network i)) Stays Nothing))
         go true q = own_piece_is n q (eqb (number S (node_id f network i)) k) refl
         go false q = input_piece q (feeds N S (only k) (node_id f network i)) refl
 
-pub ruleset classifying = (row_small, node_there, code_input, code_other, code_assumed, code_stays, code_promised, code_noted)
+pub ruleset classifying = (row_small, node_there, kept_input, kept_other, kept_stays, kept_promised, kept_noted)
 
 -- what the loop over the rows knows
-pub record Classifying (f : Form) (network sheet : List ℕ) (k n i kept : ℕ) (pieces₀ pieces : List ℕ) : Type 0 where
+pub record Classifying (f : Form) (network sheet : List ℕ) (k n i kept : ℕ) (pieces₀ pieces : List Kept) : Type 0 where
   pub within : i ≤ n
   pub counted : kept ≡ count (keeps f network sheet k) i
   pub filled : pieces ≡ table_after (with_piece f network sheet k) i pieces₀
 
-module _ (f : Form) (network sheet : List ℕ) (k n : ℕ) (pieces₀ : List ℕ) where
+module _ (f : Form) (network sheet : List ℕ) (k n : ℕ) (pieces₀ : List Kept) where
   pub classifying_start : Classifying f network sheet k n 0 0 pieces₀ pieces₀
   classifying_start = record { within = omega arith; counted = count_none _; filled = after_none (with_piece f network sheet k) pieces₀ }
 
-  module _ (i kept : ℕ) (pieces : List ℕ) (s : Classifying f network sheet k n i kept pieces₀ pieces) where
+  module _ (i kept : ℕ) (pieces : List Kept) (s : Classifying f network sheet k n i kept pieces₀ pieces) where
     done : n ≤ i → i ≡ n
     done l = let w = s.within in omega arith
 
@@ -169,50 +174,44 @@ module _ (f : Form) (network sheet : List ℕ) (k n : ℕ) (pieces₀ : List ℕ
     pub classifying_table : n ≤ i → pieces ≡ table_after (with_piece f network sheet k) n pieces₀
     classifying_table l = rw (← done l) s.filled
 
-    module _ (l : i < n) (found fragments : List ℕ) (t : RowTables f network sheet found fragments) (q : n ≡ node_count network) where
-      pub classifying_index : i < 1024
-      classifying_index = row_small f network i t.checked (omega arith)
+    pub classifying_index : i < n → n ≡ node_count network → CheckedNetwork f network → i < 1024
+    classifying_index l e c = row_small f network i c (omega arith)
 
-      module _ (code one : ℕ) (p : code ≡ piece_code f network sheet k i) (e : one ≡ cond (not (eqb code 0)) 1 0) where
-        one_small : (t : Bool) → cond (not t) 1 0 ≤ 1
-        one_small true = omega arith
-        one_small false = omega arith
+    module _ (l : i < n) (e : n ≡ node_count network) (found : List ℕ) (h : EntryRows f sheet_lead network sheet found)
+        (piece : Kept) (p : piece ≡ kept_in f network sheet k i) (t : Bool) (q : t ≡ some_kept piece) (one : ℕ) (o : one ≡ bool_byte t) where
+      -- one more is kept where anything is
+      keeps_some : keeps f network sheet k i ≡ t
+      unfolding keeps piece_of
+      keeps_some = let is = (piece_is f network sheet i (omega arith) k found h).is in
+          ap (holds (λ (v : Box Route Demand). true)) (sym is) ∙ go (kept_in f network sheet k i) ∙ sym (q ∙ ap some_kept p)
+        where
+          go : (v : Kept) → holds (λ (v : Box Route Demand). true) (piece_of f network sheet found i v) ≡ some_kept v
+          go Nothing = refl
+          go Stays = refl
+          go Promised = refl
+          go Assumed = refl
 
-        pub classifying_kept : Fits w64 n → Fits w64 (kept + one)
-        classifying_kept g = let h = one_small (eqb code 0) in let q = s.counted in omega (arith, count_le (keeps f network sheet k) i)
+      pub classifying_kept : Fits w64 n → Fits w64 (kept + one)
+      classifying_kept g = let h = count_most t in let q = s.counted in omega (arith, count_le (keeps f network sheet k) i)
 
-        keeps_code : cond (keeps f network sheet k i) 1 0 ≡ one
-        unfolding keeps piece_of
-        keeps_code =
-            ap (λ (o : Option (Box Route Demand)). cond (holds (λ (v : Box Route Demand). true) o) 1 0) (sym (piece_is f network sheet i (omega arith) k found t.noted).is)
-            ∙ go (eqb (piece_code f network sheet k i) 0) (eqb (piece_code f network sheet k i) 1) (eqb (piece_code f network sheet k i) 2)
-            ∙ sym (e ∙ rw p)
-          where
-            go : (a b d : Bool) → ◌≡◌ {A = ℕ} (cond (holds (λ (v : Box Route Demand). true) (cond a none (cond b (some (box_in f network i))
-                (cond d (some (with_promise (box_in f network i) (note_in f sheet found i))) (some (assumed_box (box_in f network i) (note_in f sheet found i))))))) 1 0) (cond (not a) 1 0)
-            go true b d = refl
-            go false true d = refl
-            go false false true = refl
-            go false false false = refl
-
-        pub classifying_next : Classifying f network sheet k n (i + 1) (kept + one) pieces₀ (set pieces i code)
-        unfolding with_piece
-        classifying_next = record {
-          within = omega arith;
-          counted = rw (s.counted, ← keeps_code) (sym (count_next (keeps f network sheet k) i));
-          filled = after_next (with_piece f network sheet k) pieces₀ i pieces (set pieces i code) s.filled (ap (set pieces i) p);
-        }
+      pub classifying_next : Classifying f network sheet k n (i + 1) (kept + one) pieces₀ (set pieces i piece)
+      unfolding with_piece
+      classifying_next = record {
+        within = omega arith;
+        counted = rw (s.counted, o, count_one t, ← keeps_some) (sym (count_next (keeps f network sheet k) i));
+        filled = after_next (with_piece f network sheet k) pieces₀ i pieces (set pieces i piece) s.filled (ap (set pieces i) p);
+      }
 
 pub ruleset classifications = (classifying_start, classifying_count, classifying_table, classifying_index, classifying_kept, classifying_next)
 
 -- what the table of all rows holds
-pub pieces_made : (f : Form) (network sheet found fragments : List ℕ) (k n : ℕ) (pieces : List ℕ) → RowTables f network sheet found fragments → n ≡ node_count network
-    → pieces ≡ table_after (with_piece f network sheet k) n (replicate 1024 0) → Pieces f network sheet found k pieces
+pub pieces_made : (f : Form) (network sheet found : List ℕ) (k n : ℕ) (pieces : List Kept) → CheckedNetwork f network → EntryRows f sheet_lead network sheet found → n ≡ node_count network
+    → pieces ≡ table_after (with_piece f network sheet k) n (replicate 1024 Nothing) → Pieces f network sheet found k pieces
 unfolding with_piece
-pieces_made f network sheet found fragments k n pieces t e d =
-    let few = t.checked.room.few in
-    let most = t.checked.room.usable.few in
+pieces_made f network sheet found k n pieces c h e d =
+    let few = c.room.few in
+    let most = c.room.usable.few in
     record {
-      row = λ i l. rw (d, after_stored (piece_code f network sheet k) (replicate 1024 0) n (omega (arith, length-replicate {A = ℕ} 1024 0)) i (omega arith))
-          (piece_is f network sheet i l k found t.noted);
+      row = λ i l. rw (d, after_stored (kept_in f network sheet k) Nothing (replicate 1024 Nothing) n (omega (arith, length-replicate {A = Kept} 1024 Nothing)) i (omega arith))
+          (piece_is f network sheet i l k found h);
     }

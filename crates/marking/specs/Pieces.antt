@@ -1,9 +1,9 @@
 -- What the fragment keeps of each row of the network's nodes.
 --     note_offset, note_in        the note of a row
 --     piece_in, keeps            what is kept of the box in a row, and whether anything is
---     piece_code, with_piece      the code of what is kept of a row
---     piece_of, Piece, Pieces    what a code says
-use Rattle.std.specs.Prelude.{ℕ, ◌+◌, ◌≤◌, ◌<◌, Bool, true, cond, not, ◌&&◌, List, ◌≡◌, eqb, get_or, set}
+--     kept_in, with_piece         which of the four ways it is kept, and the table of them
+--     piece_of, Piece, Pieces    what each way says
+use Rattle.std.specs.Prelude.{ℕ, ◌+◌, ◌<◌, Bool, true, false, cond, not, ◌&&◌, List, ◌≡◌, eqb, get_or, set}
 use Rattle.std.proofs.Math.Option.{Option, none, some}
 use Rattle.lists.specs.Filter.{holds}
 use Rattle.routes.specs.Form.{route_at}
@@ -17,6 +17,8 @@ use Rattle.nodes.specs.Node.{is_own, node_id, promising}
 use Rattle.layout.specs.declared.Form.{Form}
 use Rattle.reading.specs.Whole.{read_network, read_sheet, HouseNetwork, HouseSheet}
 use Rattle.marking.specs.Tables.{box_in, row_fragment}
+use Rattle.marking.specs.declared.pieces.Kept.{Kept}
+use Rattle.marking.specs.declared.pieces.Kept.TheVariants.{Nothing, Stays, Promised, Assumed}
 
 -- an own box with another promise; an input has none
 abbrev pub with_promise : Box Route Demand → Route → Box Route Demand
@@ -35,6 +37,20 @@ note_offset f found i = entry_offset f sheet_lead (get_or found i 0) + 3
 unfoldable pub note_in : Form → List ℕ → List ℕ → ℕ → Route
 note_in f sheet found i = route_at f.route sheet (note_offset f found i)
 
+-- anything is kept of a row
+abbrev pub some_kept : Kept → Bool
+some_kept Nothing = false
+some_kept Stays = true
+some_kept Promised = true
+some_kept Assumed = true
+
+-- its note is kept
+abbrev pub with_note : Kept → Bool
+with_note Nothing = false
+with_note Stays = false
+with_note Promised = true
+with_note Assumed = true
+
 module _ (f : Form) (network sheet : List ℕ) where
   abbrev N : HouseNetwork
   N = read_network f network
@@ -50,32 +66,31 @@ module _ (f : Form) (network sheet : List ℕ) where
   unfoldable pub keeps : ℕ → ℕ → Bool
   keeps k i = holds (λ (v : Box Route Demand). true) (piece_in k i)
 
-  -- The code of what is kept of the node in row i: 0 nothing, 1 the node as it stands, 2 the node with its note promised, 3 its note assumed.
-  unfoldable pub piece_code : ℕ → ℕ → ℕ
-  piece_code k i =
+  -- what is kept of the node in row i, by the tables' tests
+  unfoldable pub kept_in : ℕ → ℕ → Kept
+  kept_in k i =
       cond (is_own f network i)
       (cond (eqb (row_fragment f network sheet i) k)
-      (cond (leaves N S (node_id f network i) && not (promising f.route network (node_offset f network i))) 2 1)
-      (cond (feeds N S (only k) (node_id f network i)) 3 0))
-      (cond (feeds N S (only k) (node_id f network i)) 1 0)
+      (cond (leaves N S (node_id f network i) && not (promising f.route network (node_offset f network i))) Promised Stays)
+      (cond (feeds N S (only k) (node_id f network i)) Assumed Nothing))
+      (cond (feeds N S (only k) (node_id f network i)) Stays Nothing)
 
-  -- the table with the code of row i
-  unfoldable pub with_piece : ℕ → ℕ → List ℕ → List ℕ
-  with_piece k i table = set table i (piece_code k i)
+  -- the table with what is kept of row i
+  unfoldable pub with_piece : ℕ → ℕ → List Kept → List Kept
+  with_piece k i table = set table i (kept_in k i)
 
-  -- what a code says is kept of row i
-  unfoldable pub piece_of : List ℕ → ℕ → ℕ → Option (Box Route Demand)
-  piece_of found i code =
-      cond (eqb code 0) none
-      (cond (eqb code 1) (some (box_in f network i))
-      (cond (eqb code 2) (some (with_promise (box_in f network i) (note_in f sheet found i)))
-      (some (assumed_box (box_in f network i) (note_in f sheet found i)))))
+  -- what is kept of row i, as a box
+  unfoldable pub piece_of : List ℕ → ℕ → Kept → Option (Box Route Demand)
+  piece_of found i Nothing = none
+  piece_of found i Stays = some (box_in f network i)
+  piece_of found i Promised = some (with_promise (box_in f network i) (note_in f sheet found i))
+  piece_of found i Assumed = some (assumed_box (box_in f network i) (note_in f sheet found i))
 
-  -- the code says what fragment k keeps of row i; a note is kept of own boxes only
-  pub record Piece (found : List ℕ) (k i code : ℕ) : Type 0 where
-    pub is : piece_of found i code ≡ piece_in k i
-    pub ours : 2 ≤ code → is_own f network i ≡ true
+  -- this is what fragment k keeps of row i; a note is kept of own boxes only
+  pub record Piece (found : List ℕ) (k i : ℕ) (kept : Kept) : Type 0 where
+    pub is : piece_of found i kept ≡ piece_in k i
+    pub ours : with_note kept ≡ true → is_own f network i ≡ true
 
-  -- the table holds the codes of all rows
-  pub record Pieces (found : List ℕ) (k : ℕ) (pieces : List ℕ) : Type 0 where
-    pub row : (i : ℕ) → i < node_count network → Piece found k i (get_or pieces i 0)
+  -- the table holds what is kept of all rows
+  pub record Pieces (found : List ℕ) (k : ℕ) (pieces : List Kept) : Type 0 where
+    pub row : (i : ℕ) → i < node_count network → Piece found k i (get_or pieces i Nothing)

@@ -2,7 +2,6 @@
 --     box_in, own_meets                          the box in a row
 --     outside, unclashed                       the rows that 18 and 19 pass over
 --     row_fragment, with_fragment, Numbered      the fragment numbers
---     RowTables                                two checked records, the rows of the sheet's entries, and the fragment numbers
 use Rattle.std.specs.Prelude.{ℕ, ◌<◌, Bool, cond, not, ◌&&◌, List, ◌≡◌, eqb, get_or, set}
 use Rattle.lists.specs.Filter.{holds}
 use Rattle.routes.specs.declared.Demand.{Demand}
@@ -12,11 +11,8 @@ use Rattle.reading.specs.House.{house}
 use Rattle.networks.specs.Network.{Own, Box, as_own}
 use Rattle.networks.specs.Sheets.{number}
 use Rattle.layout.specs.Layout.{node_count, node_offset}
-use Rattle.layout.specs.Form.{sheet_lead}
 use Rattle.nodes.specs.Node.{node_id, is_own}
 use Rattle.layout.specs.declared.Form.{Form}
-use Rattle.records.specs.Checked.{CheckedNetwork, CheckedEntries}
-use Rattle.records.specs.Entered.{EntryRows}
 use Rattle.reading.specs.Parts.{box_at}
 use Rattle.routes.specs.Carry.{highest}
 use Rattle.reading.specs.Whole.{read_network, read_sheet}
@@ -50,10 +46,3 @@ module _ (f : Form) (network sheet : List ℕ) where
   -- the table holds the fragment numbers of all rows
   pub record Numbered (fragments : List ℕ) : Type 0 where
     pub row : (i : ℕ) → i < node_count network → get_or fragments i 0 ≡ row_fragment i
-
--- two records that are not refused, and the tables of all their rows
-pub record RowTables (f : Form) (network sheet found fragments : List ℕ) : Type 0 where
-  pub checked : CheckedNetwork f network
-  pub formed : CheckedEntries f sheet_lead sheet
-  pub noted : EntryRows f sheet_lead network sheet found
-  pub numbered : Numbered f network sheet fragments

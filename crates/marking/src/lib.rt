@@ -8,8 +8,8 @@ mod fragments;
 mod marks;
 mod notes;
 mod pieces;
+mod tables;
 
-pub use fragments::{first_inside, number_rows};
-pub use marks::mark_wires;
-pub use notes::{first_clash, note_offset};
-pub use pieces::classify_rows;
+pub use fragments::first_inside;
+pub use pieces::Kept;
+pub use tables::{Entered, Fragment, Wires};

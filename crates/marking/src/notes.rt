@@ -3,78 +3,59 @@ ghost use Rattle.std.specs.Prelude.{◌≡◌, true, ◌+◌, ◌≤◌, ◌<◌
 ghost use Rattle.lists.specs.First.{first_bad};
 ghost use Rattle.layout.specs.Layout.{node_count};
 ghost use Rattle.nodes.specs.Node.{is_own};
-ghost use Rattle.marking.specs.Marks.{Leaving};
 ghost use Rattle.marking.specs.Pieces.{note_offset};
-ghost use Rattle.records.specs.Checked.{CheckedNetwork, CheckedEntries};
 ghost use Rattle.marking.specs.Tables.{unclashed};
-ghost use Rattle.layout.specs.Form.{sheet_lead};
-ghost use Rattle.records.specs.Entered.{EntryRows};
 
-use layout::{Form, ROWS, SHEET_LEAD, entry_offset, node_offset};
+use crate::tables::Entered;
+use layout::{ROWS, SHEET_LEAD, entry_offset, node_offset};
 use nodes::{is_own, promising_at};
-use numbers::wide16;
 use routes::{route_at, same};
 
-// The offset in the sheet of the note of the own node in row i.
-pub fn note_offset(form: Form, network: &[u8], sheet: &[u8], found: &[u16; ROWS], i: usize) -> usize
-    requires checked_network { CheckedNetwork form network.now × CheckedEntries form sheet_lead sheet.now }
-    requires entry_rows { EntryRows form sheet_lead network.now sheet.now found.now × (i < node_count network.now) × (is_own form network.now i ≡ true) }
-    ensures { (result ≡ note_offset form found.now i) × (result + form.route ≤ length sheet.now) }
-{
-    let entry = wide16(found[i]);
-    entry_offset(form, SHEET_LEAD, entry) + SHEET_LEAD
-}
+impl Entered<'_> {
+    ghost use Rattle.marking.specs.Fragments.{LeavesOf};
 
-// Whether the node in row i is no own one, or none that a cut wire leaves, or promises nothing but its note.
-fn keeps_promise(
-    form: Form,
-    network: &[u8],
-    sheet: &[u8],
-    found: &[u16; ROWS],
-    leaves: &[u8; ROWS],
-    i: usize,
-) -> bool
-    requires checked_network { CheckedNetwork form network.now × CheckedEntries form sheet_lead sheet.now }
-    requires entry_rows { EntryRows form sheet_lead network.now sheet.now found.now × (i < node_count network.now) × Leaving form network.now sheet.now leaves.now }
-    ensures { result ≡ unclashed form network.now sheet.now i }
-{
-    if !is_own(form, network, i) {
-        return true;
+    // The offset in the sheet of the note of the own node in row i.
+    pub fn note_offset(self, i: usize) -> usize
+        requires { (i < node_count self.network.now) × (is_own self.form self.network.now i ≡ true) }
+        ensures { (result ≡ note_offset self.entry.form self.entry.entries.now i) × (result + self.entry.form.route ≤ length self.entry.sheet.now) }
+    {
+        let entry = usize::from(self.entries[i]);
+        entry_offset(self.form, SHEET_LEAD, entry) + SHEET_LEAD
     }
-    if leaves[i] == 0 {
-        return true;
-    }
-    let width = form.route;
-    let at = node_offset(form, network, i);
-    if !promising_at(width, network, at) {
-        return true;
-    }
-    let note = note_offset(form, network, sheet, found, i);
-    same(
-        route_at(width, network, at + 4 + width),
-        route_at(width, sheet, note),
-    )
-}
 
-// The first of n rows that is an own node which a cut wire leaves and whose promise is not its note, or n.
-pub fn first_clash(
-    form: Form,
-    network: &[u8],
-    sheet: &[u8],
-    found: &[u16; ROWS],
-    leaves: &[u8; ROWS],
-    n: usize,
-) -> usize
-    requires checked_network { CheckedNetwork form network.now × CheckedEntries form sheet_lead sheet.now }
-    requires entry_rows { EntryRows form sheet_lead network.now sheet.now found.now × (n ≡ node_count network.now) × Leaving form network.now sheet.now leaves.now }
-    ensures { result ≡ first_bad (unclashed form network.now sheet.now) n }
-{
-    let mut i = 0;
-    while i < n {
-        if !keeps_promise(form, network, sheet, found, leaves, i) {
-            return i;
+    // Whether the node in row i is no own one, or none that a cut wire leaves, or promises nothing but its note.
+    fn keeps_promise(self, leaves: &[u8; ROWS], i: usize) -> bool
+        requires { (i < node_count self.network.now) × LeavesOf self leaves.now }
+        ensures { result ≡ unclashed self.entry.form self.entry.network.now self.entry.sheet.now i }
+    {
+        if !is_own(self.form, self.network, i) {
+            return true;
         }
-        i += 1;
+        if leaves[i] == 0 {
+            return true;
+        }
+        let width = self.form.route;
+        let at = node_offset(self.form, self.network, i);
+        if !promising_at(width, self.network, at) {
+            return true;
+        }
+        let note = self.note_offset(i);
+        same(
+            route_at(width, self.network, at + 4 + width),
+            route_at(width, self.sheet, note),
+        )
     }
-    i
+
+    // The first of n rows that is an own node which a cut wire leaves and whose promise is not its note, or n.
+    pub fn first_clash(self, leaves: &[u8; ROWS], n: usize) -> usize
+        requires { (n ≡ node_count self.network.now) × LeavesOf self leaves.now }
+        ensures { result ≡ first_bad (unclashed self.entry.form self.entry.network.now self.entry.sheet.now) n }
+    {
+        for i in 0..n {
+            if !self.keeps_promise(leaves, i) {
+                return i;
+            }
+        }
+        n
+    }
 }

@@ -1,75 +1,90 @@
 // What the fragment keeps of every row of the network's nodes.
-ghost use Rattle.std.specs.Prelude.{◌≡◌, ◌<◌};
+ghost use Rattle.std.specs.Prelude.{◌≡◌, ◌<◌, cond, eqb};
 ghost use Rattle.lists.specs.Gather.{count, table_after};
 ghost use Rattle.layout.specs.Layout.{node_count};
-ghost use Rattle.marking.specs.Marks.{Leaving, Feeding};
-ghost use Rattle.marking.specs.Pieces.{keeps, piece_code, with_piece};
-ghost use Rattle.marking.specs.Tables.{RowTables};
+ghost use Rattle.marking.specs.Pieces.{kept_in, some_kept};
+ghost use Rattle.marking.specs.declared.pieces.Kept.TheVariants.{Nothing};
 
-use layout::{Form, ROWS, node_offset};
+use crate::tables::Fragment;
+use layout::{ROWS, node_offset};
 use nodes::{is_own, promising_at};
-use numbers::one_if;
 
-// What the fragment keeps of the node in row i: 0 nothing, 1 the node as it stands, 2 the node with its note promised, 3 its
-// note assumed.
-fn piece_of(
-    form: Form,
-    network: &[u8],
-    sheet: &[u8],
-    found: &[u16; ROWS],
-    fragments: &[u8; ROWS],
-    leaves: &[u8; ROWS],
-    feeds: &[u8; ROWS],
-    k: u8,
-    i: usize,
-) -> u8
-    requires row_tables { RowTables form network.now sheet.now found.now fragments.now × (i < node_count network.now) }
-    requires leaving { Leaving form network.now sheet.now leaves.now × Feeding form network.now sheet.now k feeds.now }
-    ensures { result ≡ piece_code form network.now sheet.now k i }
-{
-    if !is_own(form, network, i) {
-        return feeds[i];
-    }
-    if fragments[i] != k {
-        match feeds[i] {
-            0 => return 0,
-            _ => return 3,
-        }
-    }
-    if leaves[i] == 0 {
-        return 1;
-    }
-    if promising_at(form.route, network, node_offset(form, network, i)) {
-        return 1;
-    }
-    2
+// What the fragment keeps of a node: nothing, the node as it stands, the node with its note promised, or its note assumed.
+#[derive(Clone, Copy)]
+pub enum Kept {
+    Nothing,
+    Stays,
+    Promised,
+    Assumed,
 }
 
-// Stores what the fragment keeps of each of n rows. Answers how many are kept.
-pub fn classify_rows(
-    form: Form,
-    network: &[u8],
-    sheet: &[u8],
-    found: &[u16; ROWS],
-    fragments: &[u8; ROWS],
-    leaves: &[u8; ROWS],
-    feeds: &[u8; ROWS],
-    k: u8,
-    n: usize,
-    pieces: &mut [u8; ROWS],
-) -> usize
-    requires row_tables { RowTables form network.now sheet.now found.now fragments.now × (n ≡ node_count network.now) }
-    requires leaving { Leaving form network.now sheet.now leaves.now × Feeding form network.now sheet.now k feeds.now }
-    ensures kept { result ≡ count (keeps form network.now sheet.now k) n }
-    ensures classified { pieces.new ≡ table_after (with_piece form network.now sheet.now k) n pieces.old }
-{
-    let mut kept = 0;
-    let mut i = 0;
-    while i < n {
-        let piece = piece_of(form, network, sheet, found, fragments, leaves, feeds, k, i);
-        pieces[i] = piece;
-        kept += one_if(piece != 0);
-        i += 1;
+impl Kept {
+    // Whether anything is kept.
+    fn is_some(self) -> bool
+        ensures { result ≡ some_kept self }
+    {
+        match self {
+            Kept::Nothing => false,
+            _ => true,
+        }
     }
-    kept
+}
+
+// What is kept where a row is marked; of one that is not marked, nothing is.
+fn where_marked(mark: u8, kept: Kept) -> Kept
+    ensures { result ≡ cond (eqb mark 0) Nothing kept }
+{
+    match mark {
+        0 => Kept::Nothing,
+        _ => kept,
+    }
+}
+
+impl Fragment<'_> {
+    ghost use Rattle.marking.specs.Fragments.{keeping, kept_of, LeavesOf, FeedsOf};
+
+    // What the fragment keeps of the node in row i.
+    fn piece_of(self, leaves: &[u8; ROWS], feeds: &[u8; ROWS], i: usize) -> Kept
+        requires row { i < node_count self.entered.network.now }
+        requires leaving { LeavesOf self.entered leaves.now × FeedsOf self feeds.now }
+        ensures { result ≡ kept_in self.entry.entered.form self.entry.entered.network.now self.entry.entered.sheet.now self.entry.k i }
+    {
+        let form = self.entered.form;
+        let network = self.entered.network;
+        if !is_own(form, network, i) {
+            return where_marked(feeds[i], Kept::Stays);
+        }
+        if self.fragments[i] != self.k {
+            return where_marked(feeds[i], Kept::Assumed);
+        }
+        if leaves[i] == 0 {
+            return Kept::Stays;
+        }
+        if promising_at(form.route, network, node_offset(form, network, i)) {
+            return Kept::Stays;
+        }
+        Kept::Promised
+    }
+
+    // Stores what the fragment keeps of each of n rows. Answers how many are kept.
+    pub fn classify_rows(
+        self,
+        leaves: &[u8; ROWS],
+        feeds: &[u8; ROWS],
+        n: usize,
+        pieces: &mut [Kept; ROWS],
+    ) -> usize
+        requires rows { n ≡ node_count self.entered.network.now }
+        requires leaving { LeavesOf self.entered leaves.now × FeedsOf self feeds.now }
+        ensures kept { result ≡ count (kept_of self.entry) n }
+        ensures classified { pieces.new ≡ table_after (keeping self.entry) n pieces.old }
+    {
+        let mut kept = 0;
+        for i in 0..n {
+            let piece = self.piece_of(leaves, feeds, i);
+            pieces[i] = piece;
+            kept += usize::from(piece.is_some());
+        }
+        kept
+    }
 }

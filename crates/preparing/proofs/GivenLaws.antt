@@ -16,9 +16,9 @@ use Rattle.networks.specs.Sheets.{listed}
 use Rattle.layout.specs.Form.{list_lead, form_of}
 use Rattle.layout.specs.Layout.{entry_count, node_count}
 use Rattle.layout.specs.Refusals.{check_answer}
-use Rattle.layout.specs.declared.Check.{Check}
-use Rattle.layout.specs.declared.Check.TheVariants.{Fine}
+use Rattle.std.proofs.Common.{Result, Ok}
 use Rattle.layout.specs.declared.Form.{Form}
+use Rattle.layout.specs.declared.Refusal.{Refusal}
 use Rattle.layout.proofs.Cases.{one_check}
 use Rattle.layout.proofs.OneForm.{one_form, form_usable}
 use Rattle.nodes.specs.Node.{is_own}
@@ -69,20 +69,20 @@ module _ (network list : List ℕ) (f : Form) (e : prepare_refusal network list 
       }
 
 module _ (network list : List ℕ) where
-  pub prepared_after : (c : Check) → check_answer c ≡ prepare_refusal network list → Bytes network → Bytes list
-      → (f : Form) (before rows stands : List ℕ) → c ≡ Fine f → RowsAfter (form_of network) network c before rows
+  pub prepared_after : (c : Result Form Refusal) → check_answer c ≡ prepare_refusal network list → Bytes network → Bytes list
+      → (f : Form) (before rows stands : List ℕ) → c ≡ Ok f → RowsAfter (form_of network) network c before rows
       → stands ≡ stands_after network list c (replicate 1024 0) → Prepared f network list rows stands
   unfolding Prepared Standing
   prepared_after c h small few f before rows stands e r s =
       let told : prepare_refusal network list ≡ given f = sym h ∙ ap check_answer e in
       let all = given_listed network list f told small few in (
-        (all, stands_hold f network list stands all.checked (s ∙ ap (λ (x : Check). stands_after network list x (replicate 1024 0)) e)),
+        (all, stands_hold f network list stands all.checked (s ∙ ap (λ (x : Result Form Refusal). stands_after network list x (replicate 1024 0)) e)),
         rw (← given_form network list f told) (rows_fine (form_of network) network f c before rows e r),
       )
 
   -- the contract of `prepare`, from what the tables held before
   module _ (before stands : List ℕ) where
-    pub prepare_once : (c d : Check) (r s t u : List ℕ) → length r ≡ 65536 → length s ≡ 65536
+    pub prepare_once : (c d : Result Form Refusal) (r s t u : List ℕ) → length r ≡ 65536 → length s ≡ 65536
         → check_answer c ≡ prepare_refusal network list → RowsAfter (form_of network) network c before r → t ≡ stands_after network list c stands
         → check_answer d ≡ prepare_refusal network list → RowsAfter (form_of network) network d before s → u ≡ stands_after network list d stands
         → (c ≡ d) × (r ≡ s) × (t ≡ u)
@@ -90,5 +90,5 @@ module _ (network list : List ℕ) where
         let same : c ≡ d = one_check (prepare_refusal network list) c d p q in (
           same,
           rows_after_once (form_of network) network d before r s l m (rw same at a) b,
-          x ∙ ap (λ (k : Check). stands_after network list k stands) same ∙ sym y,
+          x ∙ ap (λ (k : Result Form Refusal). stands_after network list k stands) same ∙ sym y,
         )

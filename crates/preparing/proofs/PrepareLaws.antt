@@ -34,8 +34,7 @@ use Rattle.nodes.specs.Node.{node_id, is_own}
 use Rattle.layout.specs.Refusals.{check_answer, refusing}
 use Rattle.records.proofs.RowLaws.{rows_fine}
 use Rattle.records.specs.Rows.{past_nodes, RowsAfter}
-use Rattle.layout.specs.declared.Check.{Check}
-use Rattle.layout.specs.declared.Check.TheVariants.{Fine, Refused}
+use Rattle.std.proofs.Common.{Result, Ok, Err}
 use Rattle.layout.specs.declared.Form.{Form}
 use Rattle.layout.specs.declared.Refusal.{Refusal}
 use Rattle.reading.specs.House.{house}
@@ -119,14 +118,14 @@ module _ (f : Form) (network list : List ℕ) where
 
       pub all_standing : (places stands after : List ℕ) → CheckedNetwork f network
           → places ≡ table_after (with_entry f list_lead network list) row (replicate 1024 0)
-          → after ≡ with_stands f network (placed_in places) stands → after ≡ stands_after network list (Fine f) stands
+          → after ≡ with_stands f network (placed_in places) stands → after ≡ stands_after network list (Ok f) stands
       all_standing places stands after c placed filled =
           filled ∙ stands_entered f network list places stands (entry_rows_lem f list_lead network list row places c.room e (omega arith) placed)
 
 -- a refusal leaves the table as it was
-pub refused_stands : (network list stands : List ℕ) (r : Refusal) → stands ≡ stands_after network list (Refused r) stands
+pub refused_stands : (network list stands : List ℕ) (r : Refusal) (x : Result Form Refusal) → x ≡ Err r → stands ≡ stands_after network list x stands
 unfolding stands_after
-refused_stands network list stands r = refl
+refused_stands network list stands r x z = rw z
 
 pub checked_counts : (f : Form) (network : List ℕ) → CheckedNetwork f network → 5 + 2 ≤ length network
 checked_counts f network h = let l = h.room.long in omega arith
@@ -148,30 +147,30 @@ unfolding lacking_refusal
 lacking_form f g network list e =
     given_same (row_given 17 (unentered (read_network f network) (listed (read_list f list))) (given f) g e).1
 
-module _ (network list : List ℕ) (c : Check) (h : check_answer c ≡ network_refusal network) where
-  pub network_refused : (r : Refusal) → c ≡ Refused r → refusing r ≡ prepare_refusal network list
-  unfolding prepare_refusal
-  network_refused r e = let n : network_refusal network ≡ refusing r = sym h ∙ ap check_answer e in rw n
+module _ (network list : List ℕ) (c : Result Form Refusal) (h : check_answer c ≡ network_refusal network) where
+  module _ (r : Refusal) (e : c ≡ Err r) (x : Result Form Refusal) (z : x ≡ Err r) where
+    pub network_refused : check_answer x ≡ prepare_refusal network list
+    unfolding prepare_refusal
+    network_refused = let n : network_refusal network ≡ refusing r = sym h ∙ ap check_answer e in rw (z, n)
 
-  pub network_refused_rows : (r : Refusal) (before rows : List ℕ) → c ≡ Refused r → RowsAfter (form_of network) network c before rows
-      → RowsAfter (form_of network) network (Refused r) before rows
-  network_refused_rows r before rows e t = rw e at t
+    pub network_refused_rows : (before rows : List ℕ) → RowsAfter (form_of network) network c before rows → RowsAfter (form_of network) network x before rows
+    network_refused_rows before rows t = rw z (rw e at t)
 
-  module _ (f : Form) (e : c ≡ Fine f) (d : Check) (g : check_answer d ≡ list_refusal list) where
+  module _ (f : Form) (e : c ≡ Ok f) (d : Result Form Refusal) (g : check_answer d ≡ list_refusal list) where
     told : network_refusal network ≡ given f
     told = sym h ∙ ap check_answer e
 
-    pub list_refused : (r : Refusal) → d ≡ Refused r → refusing r ≡ prepare_refusal network list
-    unfolding prepare_refusal
-    list_refused r q = let n : list_refusal list ≡ refusing r = sym g ∙ ap check_answer q in rw (told, n)
+    module _ (r : Refusal) (q : d ≡ Err r) (x : Result Form Refusal) (z : x ≡ Err r) where
+      pub list_refused : check_answer x ≡ prepare_refusal network list
+      unfolding prepare_refusal
+      list_refused = let n : list_refusal list ≡ refusing r = sym g ∙ ap check_answer q in rw (z, told, n)
 
-    pub list_refused_rows : (r : Refusal) (before rows : List ℕ) → d ≡ Refused r → RowsAfter (form_of network) network c before rows
-        → RowsAfter (form_of network) network (Refused r) before rows
-    list_refused_rows r before rows q t =
-        let past : past_nodes (refusing r) ≡ true = ap (λ (x : Check). past_nodes (check_answer x)) (sym q) ∙ ap past_nodes g ∙ list_past list in
-        rw past (rows_fine (form_of network) network f c before rows e t)
+      pub list_refused_rows : (before rows : List ℕ) → RowsAfter (form_of network) network c before rows → RowsAfter (form_of network) network x before rows
+      list_refused_rows before rows t =
+          let past : past_nodes (check_answer x) ≡ true = ap (λ (y : Result Form Refusal). past_nodes (check_answer y)) (z ∙ sym q) ∙ ap past_nodes g ∙ list_past list in
+          rw past (rows_fine (form_of network) network f c before rows e t)
 
-    module _ (i : Form) (q : d ≡ Fine i) (r : Check) (w : check_answer r ≡ lacking_refusal f network list) where
+    module _ (i : Form) (q : d ≡ Ok i) (r : Result Form Refusal) (w : check_answer r ≡ lacking_refusal f network list) where
       pub records_entered : check_answer r ≡ prepare_refusal network list
       unfolding prepare_refusal
       records_entered = let n : list_refusal list ≡ given i = sym g ∙ ap check_answer q in rw (told, n) w
@@ -182,8 +181,8 @@ module _ (network list : List ℕ) (c : Check) (h : check_answer c ≡ network_r
           rw past (rows_fine (form_of network) network f c before rows e t)
 
 -- a list that is taken with a network is checked by the network's form
-pub list_checked : (network list : List ℕ) (c : Check) → check_answer c ≡ network_refusal network → (d : Check) → check_answer d ≡ list_refusal list → Bytes list
-    → (f : Form) → c ≡ Fine f → (g : Form) → d ≡ Fine g → CheckedEntries f list_lead list
+pub list_checked : (network list : List ℕ) (c : Result Form Refusal) → check_answer c ≡ network_refusal network → (d : Result Form Refusal) → check_answer d ≡ list_refusal list → Bytes list
+    → (f : Form) → c ≡ Ok f → (g : Form) → d ≡ Ok g → CheckedEntries f list_lead list
 list_checked network list c h d k small f e g q = together_checked c d f g e q network h list_lead list k (omega arith, omega arith) small
 
 pub ruleset preparing = (refused_stands, network_refused, network_refused_rows, list_refused, list_refused_rows, records_entered, records_rows)

@@ -18,7 +18,7 @@ use Rattle.numbers.proofs.StrideLaws.{stride_low}
 use Rattle.layout.specs.Layout.{entry_offset, Room, node_count, edge_count, policy_count, policy_offset, node_offset, edge_offset}
 use Rattle.layout.specs.Form.{Usable, entry_width, node_width, list_lead}
 use Rattle.nodes.specs.Node.{is_own}
-use Rattle.layout.specs.declared.Check.TheVariants.{Fine}
+use Rattle.std.proofs.Common.{Ok}
 use Rattle.layout.specs.declared.Form.{Form}
 use Rattle.records.specs.Checked.{CheckedNetwork}
 use Rattle.records.specs.Entered.{entry_in, EntryRows}
@@ -136,12 +136,12 @@ module _ (f : Form) (network list : List ℕ) where
       go false q = refl
 
   pub stands_entered : (places table : List ℕ) → EntryRows f list_lead network list places
-      → with_stands f network (placed_in places) table ≡ stands_after network list (Fine f) table
+      → with_stands f network (placed_in places) table ≡ stands_after network list (Ok f) table
   unfolding with_stands stands_after
   stands_entered places table p = steps_same f network (placed_in places) (entry_in f list_lead network list) table (node_count network) (stood places p)
 
   -- what a table of zeros holds then
-  pub stands_hold : (stands : List ℕ) → CheckedNetwork f network → stands ≡ stands_after network list (Fine f) (replicate 1024 0)
+  pub stands_hold : (stands : List ℕ) → CheckedNetwork f network → stands ≡ stands_after network list (Ok f) (replicate 1024 0)
       → (i : ℕ) → i < node_count network → get_or stands i 0 ≡ stand_of f network list i
   unfolding stands_after with_stands with_stand stand_of
   stands_hold stands h e i l =

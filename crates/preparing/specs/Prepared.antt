@@ -4,7 +4,7 @@
 --     stand_at, stand_of                   where the routes stand
 --     with_stand, .., stands_after         the table of it, row by row, and after a call
 --     Standing, Prepared                 the records with one table, and with both
-use Rattle.std.specs.Prelude.{ℕ, ◌+◌, ◌<◌, ◌≡◌, true, cond, List, length, get_or, set}
+use Rattle.std.specs.Prelude.{ℕ, ◌+◌, ◌<◌, ◌≡◌, true, cond, List, length, get_or, set, Result, Ok, Err}
 use Rattle.layout.specs.Layout.{entry_count, entry_offset, node_count, node_offset}
 use Rattle.entries.specs.Entries.{list_refusal}
 use Rattle.layout.specs.Form.{list_lead}
@@ -12,9 +12,8 @@ use Rattle.records.specs.Network.{network_refusal}
 use Rattle.nodes.specs.Node.{is_own}
 use Rattle.records.specs.Entered.{entry_in}
 use Rattle.records.specs.Rows.{Filled}
-use Rattle.layout.specs.declared.Check.{Check}
-use Rattle.layout.specs.declared.Check.TheVariants.{Fine, Refused}
 use Rattle.layout.specs.declared.Form.{Form}
+use Rattle.layout.specs.declared.Refusal.{Refusal}
 use Rattle.reading.specs.Whole.{read_network, read_list}
 use Rattle.records.specs.Checked.{CheckedNetwork, CheckedEntries}
 use Rattle.lists.specs.Answer.{Answer, given, and_then}
@@ -61,9 +60,9 @@ unfoldable pub with_stands : Form → List ℕ → (ℕ → ℕ) → List ℕ �
 with_stands f network entry table = table_after (with_stand f network entry) (node_count network) table
 
 -- the table after a call: filled where nothing is refused, and else as it was
-unfoldable pub stands_after : List ℕ → List ℕ → Check → List ℕ → List ℕ
-stands_after network list (Fine f) table = with_stands f network (entry_in f list_lead network list) table
-stands_after network list (Refused r) table = table
+unfoldable pub stands_after : List ℕ → List ℕ → Result Form Refusal → List ℕ → List ℕ
+stands_after network list (Ok f) table = with_stands f network (entry_in f list_lead network list) table
+stands_after network list (Err r) table = table
 
 -- the table has the rows of all nodes
 unfoldable pub Standing : Form → List ℕ → List ℕ → List ℕ → Type 0

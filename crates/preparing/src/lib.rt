@@ -5,5 +5,5 @@
 mod lookup;
 mod tables;
 
-pub use lookup::{box_part, box_route, named_part, row_part};
+pub use lookup::{Lookup, Proposal};
 pub use tables::prepare;

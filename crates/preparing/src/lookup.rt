@@ -1,85 +1,108 @@
 // A neighbour's route: its bytes are a part of whichever record holds them.
-ghost use Rattle.std.specs.Prelude.{◌≡◌, true, ◌<◌};
-ghost use Rattle.records.specs.Edge.{boxed};
-ghost use Rattle.routes.specs.Carry.{highest};
-ghost use Rattle.networks.specs.Solution.{mapping};
-ghost use Rattle.reading.specs.House.{house};
-ghost use Rattle.reading.specs.Whole.{read_network, read_list};
-ghost use Rattle.layout.specs.Layout.{node_count};
-ghost use Rattle.nodes.specs.Node.{row_of};
-ghost use Rattle.preparing.specs.Parts.{row_part, named_part};
 ghost use Rattle.preparing.specs.Prepared.{Standing, Prepared};
+ghost use Rattle.preparing.specs.Once.{standing_once, prepared_once};
 
 use layout::{Form, ROWS};
 use records::row_in;
 use routes::{Route, route_at};
 
-// The route bytes of the node in a row: in the list for an own box, in the network for an input.
-pub fn row_part<'a>(
-    form: Form,
-    network: &'a [u8],
-    list: &'a [u8],
-    stands: &[usize; ROWS],
-    row: usize,
-) -> &'a [u8]
-    requires { Standing form network.now list.now stands.now × (row < node_count network.now) }
-    ensures { result.now ≡ row_part form network.now list.now row }
-{
-    let width = form.route;
-    let at = stands[row];
-    let n = network.len();
-    if at < n {
-        return &network[at..at + width];
+// A proposal with the network that it is for, and where the route of each row stands: what `prepare` leaves.
+#[derive(Clone, Copy)]
+pub struct Proposal<'a, 't> {
+    pub form: Form,
+    pub network: &'a [u8],
+    pub list: &'a [u8],
+    pub stands: &'t [usize; ROWS],
+    pub ghost standing: { Standing form network.now list.now stands.now } by { standing_once _ _ _ _ },
+}
+
+// The same with the row of each id, by which a neighbour's route is looked up.
+#[derive(Clone, Copy)]
+pub struct Lookup<'a, 't> {
+    pub proposal: Proposal<'a, 't>,
+    pub rows: &'t [u16; 65536],
+    pub ghost prepared: { Prepared proposal.form proposal.network.now proposal.list.now rows.now proposal.stands.now } by { prepared_once _ _ _ _ _ },
+}
+
+impl<'a, 't> Proposal<'a, 't> {
+    ghost use Rattle.std.specs.Prelude.{◌≡◌, ◌<◌};
+    ghost use Rattle.layout.specs.Layout.{node_count};
+    ghost use Rattle.preparing.specs.Parts.{row_part};
+
+    // The route bytes of the node in a row: in the list for an own box, in the network for an input.
+    pub fn row_part(&self, row: usize) -> &'a [u8]
+        requires { row < node_count self.now.network.now }
+        ensures { result.now ≡ row_part self.now.form self.now.network.now self.now.list.now row }
+    {
+        let width = self.form.route;
+        let at = self.stands[row];
+        let n = self.network.len();
+        if at < n {
+            return &self.network[at..at + width];
+        }
+        let from = at - n;
+        &self.list[from..from + width]
     }
-    let from = at - n;
-    &list[from..from + width]
 }
 
-// The same of the box with an id.
-pub fn box_part<'a>(
-    form: Form,
-    network: &'a [u8],
-    list: &'a [u8],
-    rows: &[u16; 65536],
-    stands: &[usize; ROWS],
-    id: u16,
-) -> &'a [u8]
-    requires { Prepared form network.now list.now rows.now stands.now × (boxed form network.now id ≡ true) }
-    ensures { result.now ≡ row_part form network.now list.now (row_of form network.now id) }
-{
-    row_part(form, network, list, stands, row_in(form, network, rows, id))
-}
+impl<'a, 't> Lookup<'a, 't> {
+    ghost use Rattle.std.specs.Prelude.{◌≡◌, true};
+    ghost use Rattle.records.specs.Edge.{boxed};
+    ghost use Rattle.routes.specs.Carry.{highest};
+    ghost use Rattle.networks.specs.Solution.{mapping};
+    ghost use Rattle.reading.specs.House.{house};
+    ghost use Rattle.reading.specs.Whole.{read_network, read_list};
+    ghost use Rattle.nodes.specs.Node.{row_of};
+    ghost use Rattle.preparing.specs.Parts.{row_part, named_part};
 
-// The route that the box with an id holds: an own box by the list, an input by assumption.
-pub fn box_route<'a>(
-    form: Form,
-    network: &'a [u8],
-    list: &'a [u8],
-    rows: &[u16; 65536],
-    stands: &[usize; ROWS],
-    id: u16,
-) -> Route
-    requires { Prepared form network.now list.now rows.now stands.now × (boxed form network.now id ≡ true) }
-    ensures { result ≡ mapping (house highest) (read_network form network.now) (read_list form list.now) id }
-{
-    let part = box_part(form, network, list, rows, stands, id);
-    route_at(form.route, part, 0)
-}
-
-// The route bytes of the box with an id, or an empty part where no node has it.
-pub fn named_part<'a>(
-    form: Form,
-    network: &'a [u8],
-    list: &'a [u8],
-    rows: &[u16; 65536],
-    stands: &[usize; ROWS],
-    id: u16,
-) -> &'a [u8]
-    requires { Prepared form network.now list.now rows.now stands.now }
-    ensures { result.now ≡ named_part form network.now list.now id }
-{
-    if rows[id as usize] == 0 {
-        return &network[0..0];
+    // The lookup in two records that are not refused, by the tables that `prepare` fills.
+    pub fn new(
+        form: Form,
+        network: &'a [u8],
+        list: &'a [u8],
+        rows: &'t [u16; 65536],
+        stands: &'t [usize; ROWS],
+    ) -> Self
+        requires { Prepared form network.now list.now rows.now stands.now }
+        ensures form { result.proposal.form ≡ form }
+        ensures network { result.proposal.network.now ≡ network.now }
+        ensures list { result.proposal.list.now ≡ list.now }
+        ensures rows { result.rows.now ≡ rows.now }
+        ensures stands { result.proposal.stands.now ≡ stands.now }
+    {
+        let proposal = Proposal {
+            form,
+            network,
+            list,
+            stands,
+        };
+        Lookup { proposal, rows }
     }
-    box_part(form, network, list, rows, stands, id)
+
+    // The route bytes of the box with an id.
+    pub fn box_part(&self, id: u16) -> &'a [u8]
+        requires { boxed self.now.proposal.form self.now.proposal.network.now id ≡ true }
+        ensures { result.now ≡ row_part self.now.proposal.form self.now.proposal.network.now self.now.proposal.list.now (row_of self.now.proposal.form self.now.proposal.network.now id) }
+    {
+        let proposal = self.proposal;
+        proposal.row_part(row_in(proposal.form, proposal.network, self.rows, id))
+    }
+
+    // The route that the box with an id holds: an own box by the list, an input by assumption.
+    pub fn box_route(&self, id: u16) -> Route
+        requires { boxed self.now.proposal.form self.now.proposal.network.now id ≡ true }
+        ensures { result ≡ mapping (house highest) (read_network self.now.proposal.form self.now.proposal.network.now) (read_list self.now.proposal.form self.now.proposal.list.now) id }
+    {
+        route_at(self.proposal.form.route, self.box_part(id), 0)
+    }
+
+    // The route bytes of the box with an id, or an empty part where no node has it.
+    pub fn named_part(&self, id: u16) -> &'a [u8]
+        ensures { result.now ≡ named_part self.now.proposal.form self.now.proposal.network.now self.now.proposal.list.now id }
+    {
+        if self.rows[usize::from(id)] == 0 {
+            return &self.proposal.network[0..0];
+        }
+        self.box_part(id)
+    }
 }

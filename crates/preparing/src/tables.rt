@@ -9,9 +9,9 @@ ghost use Rattle.records.specs.Rows.{RowsAfter};
 ghost use Rattle.preparing.specs.Prepared.{stand_at, placed_in, with_stands, stands_after, lacking_refusal, prepare_refusal};
 
 use entries::check_list;
-use layout::{Check, Class, Form, LIST_LEAD, NODES_FIELD, ROWS, entry_offset, node_offset};
+use layout::{Class, Form, LIST_LEAD, NODES_FIELD, ROWS, Refusal, entry_offset, node_offset};
 use nodes::{is_own, refused_at};
-use numbers::{u16_at, wide16};
+use numbers::u16_at;
 use records::{check_network_rows, place_entries};
 
 // Where the route of the node in row i stands, whose entry, if it is an own box, is in a row of the list.
@@ -31,27 +31,30 @@ fn fill_stands(form: Form, network: &[u8], places: &[u16; ROWS], stands: &mut [u
     requires { CheckedNetwork form network.now }
     ensures { stands.new ≡ with_stands form network.now (placed_in places.now) stands.old }
 {
-    let n = wide16(u16_at(network, NODES_FIELD));
-    let mut i = 0;
-    while i < n {
-        stands[i] = stand_at(form, network, i, wide16(places[i]));
-        i += 1;
+    let n = usize::from(u16_at(network, NODES_FIELD));
+    for i in 0..n {
+        stands[i] = stand_at(form, network, i, usize::from(places[i]));
     }
 }
 
 // Number 17, and where that does not apply the table of where routes stand.
-fn enter(form: Form, network: &[u8], list: &[u8], stands: &mut [usize; ROWS]) -> Check
+fn enter(
+    form: Form,
+    network: &[u8],
+    list: &[u8],
+    stands: &mut [usize; ROWS],
+) -> Result<Form, Refusal>
     requires { CheckedNetwork form network.now × CheckedEntries form list_lead list.now }
     ensures numbers { check_answer result ≡ lacking_refusal form network.now list.now }
     ensures table { stands.new ≡ stands_after network.now list.now result stands.old }
 {
     let mut places = [0u16; ROWS];
     let row = place_entries(form, LIST_LEAD, network, list, &mut places);
-    if row < wide16(u16_at(network, NODES_FIELD)) {
-        return Check::Refused(refused_at(Class::NoEntry, form, network, row));
+    if row < usize::from(u16_at(network, NODES_FIELD)) {
+        return Err(refused_at(Class::NoEntry, form, network, row));
     }
     fill_stands(form, network, &places, stands);
-    Check::Fine(form)
+    Ok(form)
 }
 
 // Checks a network and a list for judging, and fills two tables: the one from ids to rows, which is lent with zeros, where none of
@@ -61,17 +64,13 @@ pub fn prepare(
     list: &[u8],
     rows: &mut [u16; 65536],
     stands: &mut [usize; ROWS],
-) -> Check
+) -> Result<Form, Refusal>
     requires { rows.old ≡ replicate 65536 0 }
     ensures numbers { check_answer result ≡ prepare_refusal network.now list.now }
     ensures rows { RowsAfter (form_of network.now) network.now result rows.old rows.new }
     ensures stands { stands.new ≡ stands_after network.now list.now result stands.old }
 {
-    match check_network_rows(network, rows) {
-        Check::Refused(r) => Check::Refused(r),
-        Check::Fine(form) => match check_list(list) {
-            Check::Refused(r) => Check::Refused(r),
-            Check::Fine(_) => enter(form, network, list, stands),
-        },
-    }
+    let form = check_network_rows(network, rows)?;
+    check_list(list)?;
+    enter(form, network, list, stands)
 }

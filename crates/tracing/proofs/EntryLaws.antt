@@ -23,8 +23,7 @@ use Rattle.networks.specs.Network.{owns}
 use Rattle.networks.specs.Trail.{Shown, showing}
 use Rattle.layout.specs.Form.{form_of}
 use Rattle.layout.specs.Refusals.{check_answer}
-use Rattle.layout.specs.declared.Check.{Check}
-use Rattle.layout.specs.declared.Check.TheVariants.{Fine, Refused as Check-as-Refused}
+use Rattle.std.proofs.Common.{Result, Ok, Err}
 use Rattle.layout.specs.declared.Class.TheVariants.{NoSuchOwn}
 use Rattle.layout.specs.declared.Form.{Form}
 use Rattle.layout.specs.declared.Refusal.{Refusal}
@@ -141,17 +140,22 @@ module _ (f : Form) (network list : List ℕ) (id : ℕ) (t : Bool) (o : t ≡ o
 pub ruleset showings = (shown_tabled, none_told, owned_told, pass_told, trail_told, line_told)
 
 -- by what is refused before
-module _ (network list : List ℕ) (id : ℕ) (c : Check) (h : check_answer c ≡ prepare_refusal network list) where
-  pub refused_told : (r : Refusal) → c ≡ Check-as-Refused r → (l : Line) → line_bytes l ≡ verdict_line (answer_of (Refused r)) → line_bytes l ≡ trail_output network list id
+module _ (network list : List ℕ) (id : ℕ) (c : Result Form Refusal) (h : check_answer c ≡ prepare_refusal network list) where
+  pub refused_told : (r : Refusal) → c ≡ Err r → (l : Line) → line_bytes l ≡ verdict_line (answer_of (Refused r)) → line_bytes l ≡ trail_output network list id
   unfolding trail_output show_records shown_text verdict_line
   refused_told r e l m = m ∙ rw (← judge_refused network list c h r e)
 
-  pub shown_told : (f : Form) → c ≡ Fine f → output_at f network list id ≡ trail_output network list id
-  unfolding trail_output output_at show_records shown_at
-  shown_told f e =
-      let own : form_of network ≡ f = given_form network list f (sym h ∙ ap check_answer e) in
-      let one : form_of list ≡ f = one_form list network ∙ own in
-      rw (own, one, judge_searched network list c h f e (verdict_at f network list) refl)
+  module _ (f : Form) (e : c ≡ Ok f) where
+    shown_told_lem : output_at f network list id ≡ trail_output network list id
+    unfolding trail_output output_at show_records shown_at
+    shown_told_lem =
+        let own : form_of network ≡ f = given_form network list f (sym h ∙ ap check_answer e) in
+        let one : form_of list ≡ f = one_form list network ∙ own in
+        rw (own, one, judge_searched network list c h f e (verdict_at f network list) refl)
+
+    -- the lookup is in these records
+    pub shown_told : (g : Form) (n l : List ℕ) → g ≡ f → n ≡ network → l ≡ list → output_at g n l id ≡ trail_output network list id
+    shown_told g n l p q r = rw (p, q, r) shown_told_lem
 
 pub ruleset entering = (refused_told, shown_told)
 

@@ -18,8 +18,7 @@ use Rattle.lines.proofs.Writing.{written_then}
 use Rattle.preparing.specs.Prepared.{Prepared}
 use Rattle.tracing.specs.Text.{trail_line, trail_from}
 use Rattle.tracing.specs.Tracing.{mapping_in, sender_in, Passing, sender_of}
-use Rattle.tracing.specs.declared.Sender.{Sender}
-use Rattle.tracing.specs.declared.Sender.TheVariants.{NoSender, From}
+use Rattle.std.proofs.Common.{Option, Some, None}
 use Rattle.tracing.proofs.TrailLaws.{from_last, from_next, sent_boxed, sent_cheaper}
 
 module _ (f : Form) (network list : List ℕ) (id at : ℕ) where
@@ -27,17 +26,17 @@ module _ (f : Form) (network list : List ℕ) (id at : ℕ) where
   walk_room l = omega arith
 
 module _ (f : Form) (network list rows stands : List ℕ) (h : Prepared f network list rows stands) (p : Passing f network list) (id : ℕ)
-    (x : Sender) (s : sender_of x ≡ sender_in f network list id) where
+    (x : Option ℕ) (s : sender_of x ≡ sender_in f network list id) where
   -- the line of the box
   module _ (a b : List ℕ) (i j : ℕ) (route : Route) (q : route ≡ mapping_in f network list id) (w : Written (box_line id route) a i b j) where
     line_put : Written (trail_line f network list id) a i b j
     unfolding trail_line
     line_put = rw q at w
 
-    pub walk_last : x ≡ NoSender → Written (trail_from f network list id) a i b j
+    pub walk_last : x ≡ None → Written (trail_from f network list id) a i b j
     walk_last e = rw (from_last f network list rows stands h p id (sym s ∙ ap sender_of e)) line_put
 
-    module _ (from : ℕ) (e : x ≡ From from) where
+    module _ (from : ℕ) (e : x ≡ Some from) where
       next_is : trail_from f network list id ≡ trail_line f network list id ++ trail_from f network list from
       next_is = from_next f network list rows stands h p id from (sym s ∙ ap sender_of e)
 
@@ -51,7 +50,7 @@ module _ (f : Form) (network list rows stands : List ℕ) (h : Prepared f networ
       pub walk_more : (c : List ℕ) (k : ℕ) → Written (trail_from f network list from) b j c k → Written (trail_from f network list id) a i c k
       walk_more c k v = rw next_is (written_then a b c _ _ i j k line_put v)
 
-  module _ (from : ℕ) (e : x ≡ From from) where
+  module _ (from : ℕ) (e : x ≡ Some from) where
     pub walk_boxed : boxed f network from ≡ true
     walk_boxed = sent_boxed f network list rows stands h p id from (sym s ∙ ap sender_of e)
 

@@ -2,10 +2,11 @@
 -- or the finding of a list that fails.
 --     show_records, shown_at      the answer, and what it is where judging refuses nothing
 --     mapping_in, supplier_in, sender_in     what a box holds, and the box that its route came from, by the records' form
---     sender_of                  what each case of a sender says
+--     sender_of                  the box that an answer names, if it names one
 --     Passing                   the list passes in the network
-use Rattle.std.specs.Prelude.{ℕ, List, ◌≡◌}
-use Rattle.std.proofs.Math.Option.{Option, none, some}
+use Rattle.std.specs.Prelude.{ℕ, List, ◌≡◌, Option, Some, None}
+use Rattle.std.proofs.Math.Option.{none, some}
+use Rattle.std.proofs.Math.Option as maybe
 use Rattle.lists.specs.Answer.{Answer, given, and_then}
 use Rattle.routes.specs.Carry.{highest}
 use Rattle.routes.specs.declared.Route.{Route}
@@ -16,8 +17,6 @@ use Rattle.layout.specs.declared.Form.{Form}
 use Rattle.reading.specs.House.{house}
 use Rattle.reading.specs.Whole.{read_network, read_list, network_of, list_of}
 use Rattle.judging.specs.Judging.{judge_records, verdict_at}
-use Rattle.tracing.specs.declared.Sender.{Sender}
-use Rattle.tracing.specs.declared.Sender.TheVariants.{NoSender, From}
 
 unfoldable pub show_records : List ℕ → List ℕ → ℕ → Answer (Shown Route)
 show_records network list id = and_then (judge_records network list) (showing (house highest) (network_of network) (list_of list) id)
@@ -28,10 +27,10 @@ module _ (f : Form) (network list : List ℕ) where
   mapping_in = mapping (house highest) (read_network f network) (read_list f list)
 
   -- the lowest sender that supplies it, and the box that the trail goes back to
-  abbrev pub supplier_in : ℕ → Option ℕ
+  abbrev pub supplier_in : ℕ → maybe.Option ℕ
   supplier_in = supplier (house highest) (read_network f network) mapping_in
 
-  abbrev pub sender_in : ℕ → Option ℕ
+  abbrev pub sender_in : ℕ → maybe.Option ℕ
   sender_in = sender (house highest) (read_network f network) mapping_in
 
   -- what is shown of a box, where judging refuses nothing
@@ -42,6 +41,6 @@ module _ (f : Form) (network list : List ℕ) where
   unfoldable pub Passing : Type 0
   Passing = (count : ℕ) × (verdict_at f network list ≡ given (pass count))
 
-abbrev pub sender_of : Sender → Option ℕ
-sender_of NoSender = none
-sender_of (From id) = some id
+abbrev pub sender_of : Option ℕ → maybe.Option ℕ
+sender_of None = none
+sender_of (Some id) = some id

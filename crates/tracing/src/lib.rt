@@ -7,10 +7,3 @@ mod senders;
 mod walk;
 
 pub use entry::{LONGEST_TRAIL, longest_trail, trail, trail_bytes};
-
-// The box that a trail goes back to, if it does not stop.
-#[derive(Clone, Copy)]
-pub enum Sender {
-    NoSender,
-    From(u16),
-}

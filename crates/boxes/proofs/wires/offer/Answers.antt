@@ -9,9 +9,6 @@ overflow_add-at c = search (rules, offers)
 pub bounds-network-at : goal.bounds-network-at
 bounds-network-at c = search (rules, offers)
 
-pub wide-requires : goal.wide-requires
-wide-requires c = search (rules, offers)
-
 pub policy_offset-requires : goal.policy_offset-requires
 policy_offset-requires c = search (rules, offers)
 
@@ -21,8 +18,8 @@ policy_at-policy-requires c = search (rules, offers)
 pub overflow_add-at-2 : goal.overflow_add-at-2
 overflow_add-at-2 c = search (rules, offers)
 
-pub u16_at-from-requires : goal.u16_at-from-requires
-u16_at-from-requires c = search (rules, offers)
+pub u16_at-requires : goal.u16_at-requires
+u16_at-requires c = search (rules, offers)
 
 pub box_route-requires : goal.box_route-requires
 box_route-requires c = search (rules, offers)

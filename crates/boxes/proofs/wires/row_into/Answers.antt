@@ -22,7 +22,7 @@ pub overflow_add-mid : goal.overflow_add-mid
 overflow_add-mid c = omega arith
 
 pub stride-requires : goal.stride-requires
-stride-requires c = (search rules, search rules, search halving)
+stride-requires c = (search rules, search rules, let within = c.loop-lo.invariant.high in omega arith)
 
 pub u16_at-requires-in-loop-lo : goal.u16_at-requires-in-loop-lo
 u16_at-requires-in-loop-lo c = search halving

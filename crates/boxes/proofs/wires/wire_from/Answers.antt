@@ -9,8 +9,5 @@ returns-then-network-at c = search (rules, wire_froms)
 pub u16_at-requires : goal.u16_at-requires
 u16_at-requires c = search (rules, wire_froms)
 
-pub wide16-requires : goal.wide16-requires
-wide16-requires c = search (rules, wire_froms)
-
 pub returns : goal.returns
 returns c = search (rules, wire_froms)

@@ -6,11 +6,8 @@ use Rattle.counting.proofs.counts.asks_route.Goals as goal
 pub demand_at-requires : goal.demand_at-requires
 demand_at-requires c = search (rules, asking_routes)
 
-pub returns-in-Nothing : goal.returns-in-Nothing
-returns-in-Nothing c = search (rules, asking_routes)
-
 pub returns-in-Hold : goal.returns-in-Hold
 returns-in-Hold c = search (rules, asking_routes)
 
-pub returns-in-HoldNone : goal.returns-in-HoldNone
-returns-in-HoldNone c = search (rules, asking_routes)
+pub returns-in_default : goal.returns-in_default
+returns-in_default c = search (rules, asking_routes, c.in_default.not-Hold)

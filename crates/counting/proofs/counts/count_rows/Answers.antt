@@ -5,26 +5,17 @@ use Rattle.counting.proofs.counts.count_rows.Goals as goal
 pub u16_at-requires : goal.u16_at-requires
 u16_at-requires c = search (rules, countings)
 
-pub wide16-n-requires : goal.wide16-n-requires
-wide16-n-requires c = search (rules, countings)
-
 pub loop-i-init : goal.loop-i-init
 loop-i-init c = search (rules, countings)
 
 pub is_counted-requires : goal.is_counted-requires
 is_counted-requires c = search (rules, countings)
 
-pub one_if-counted-requires : goal.one_if-counted-requires
-one_if-counted-requires c = search (rules, countings)
-
 pub overflow_add-counted : goal.overflow_add-counted
 overflow_add-counted c = search (rules, countings)
-
-pub loop-i-smaller : goal.loop-i-smaller
-loop-i-smaller c = search (rules, countings)
 
 pub loop-i-preserved : goal.loop-i-preserved
 loop-i-preserved c = search (rules, countings)
 
 pub returns : goal.returns
-returns c = search countings
+returns c = search (rules, countings)

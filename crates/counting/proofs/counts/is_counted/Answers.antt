@@ -7,13 +7,13 @@ pub is_own-requires : goal.is_own-requires
 is_own-requires c = search (rules, rowing)
 
 pub own_counted-requires : goal.own_counted-requires
-own_counted-requires c = (search rules, search rules, search rowing)
+own_counted-requires c = (search rules, search rowing)
 
 pub returns-then-is_own : goal.returns-then-is_own
 returns-then-is_own c = search (rules, rowing)
 
 pub input_counted-requires : goal.input_counted-requires
-input_counted-requires c = (search rules, search rules, search rowing)
+input_counted-requires c = (search rules, search rowing)
 
 pub returns : goal.returns
 returns c = search (rules, rowing)

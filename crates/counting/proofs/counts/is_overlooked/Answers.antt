@@ -6,8 +6,8 @@ use Rattle.counting.proofs.counts.is_overlooked.Goals as goal
 pub carries-requires : goal.carries-requires
 carries-requires c = search (rules, overlooking)
 
-pub returns-then-carries : goal.returns-then-carries
-returns-then-carries c = search (rules, overlooking)
+pub returns-else-not-carries : goal.returns-else-not-carries
+returns-else-not-carries c = search (rules, overlooking)
 
 pub node_offset-requires : goal.node_offset-requires
 node_offset-requires c = (search offsets, search offsets, search offsets)
@@ -15,5 +15,5 @@ node_offset-requires c = (search offsets, search offsets, search offsets)
 pub asks_none-requires : goal.asks_none-requires
 asks_none-requires c = search (rules, overlooking)
 
-pub returns : goal.returns
-returns c = search (rules, overlooking)
+pub returns-then-not-carries : goal.returns-then-not-carries
+returns-then-not-carries c = search (rules, overlooking)

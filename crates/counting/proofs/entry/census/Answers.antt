@@ -14,15 +14,15 @@ verdict_line-requires c = search (rules, entering)
 pub place_line-requires : goal.place_line-requires
 place_line-requires c = search (rules, entering)
 
-pub place_judged-requires : goal.place_judged-requires
-place_judged-requires c =
+pub new-requires : goal.new-requires
+new-requires c =
     search (
       rules,
       prepared_after _ _ c.prepare.result c.prepare.ensures.numbers (λ i. (c.type_inv.network i).fits) (λ i. (c.type_inv.list i).fits),
     )
 
-pub returns-in-Refused : goal.returns-in-Refused
-returns-in-Refused c = record { count = search (answering, entering); text = search (answering, entering) }
+pub returns-in-Err : goal.returns-in-Err
+returns-in-Err c = record { count = search (answering, entering); text = search (answering, entering) }
 
-pub returns-in-Fine : goal.returns-in-Fine
-returns-in-Fine c = record { count = search (answering, entering); text = search (answering, entering) }
+pub returns-in-Ok : goal.returns-in-Ok
+returns-in-Ok c = record { count = search (answering, entering); text = search (answering, entering) }

@@ -18,8 +18,8 @@ returns-in_default c =
     let not_pass = c.in_default.not-Pass in
     record { count = search (answering, verdicts, not_pass); text = search (answering, verdicts, not_pass) }
 
-pub tally-counts-requires : goal.tally-counts-requires
-tally-counts-requires c = search (rules, verdicts)
+pub tally-requires : goal.tally-requires
+tally-requires c = search (rules, verdicts)
 
 pub place_pass-requires : goal.place_pass-requires
 place_pass-requires c = search (rules, verdicts)

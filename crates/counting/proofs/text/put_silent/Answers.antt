@@ -12,9 +12,6 @@ returns-then-not-is_counted c = search (rules, silencing)
 pub node_id-requires : goal.node_id-requires
 node_id-requires c = search (rules, silencing)
 
-pub wide16-requires : goal.wide16-requires
-wide16-requires c = search (rules, silencing)
-
 pub put_name-requires : goal.put_name-requires
 put_name-requires c = search (rules, silencing)
 

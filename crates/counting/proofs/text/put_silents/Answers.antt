@@ -5,9 +5,6 @@ use Rattle.counting.proofs.text.put_silents.Goals as goal
 pub u16_at-requires : goal.u16_at-requires
 u16_at-requires c = search (rules, silences)
 
-pub wide16-n-requires : goal.wide16-n-requires
-wide16-n-requires c = search (rules, silences)
-
 pub loop-i-init : goal.loop-i-init
 loop-i-init c = search (rules, silences)
 

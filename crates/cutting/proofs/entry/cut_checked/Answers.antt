@@ -1,28 +1,27 @@
 -- The first own box without an entry is 17 (answer_17); where there is none, both tables are filled.
-use Rattle.cutting.proofs.AnswerLaws.{cutting_17, all_rows}
+use Rattle.layout.specs.Layout.{node_count}
+use Rattle.cutting.proofs.AnswerLaws.{cutting_17}
+use Rattle.marking.proofs.FragmentLaws.{fragments_numbered}
+use mathlib.Core.Path.{◌≡◌}
 use borrow.Author.Rules.{rules}
 use Rattle.cutting.proofs.entry.cut_checked.Goals as goal
 
-pub u16_at-n-requires : goal.u16_at-n-requires
-u16_at-n-requires c = search (rules, cutting_17)
-
-pub overflow_cast-n : goal.overflow_cast-n
-overflow_cast-n c = search (rules, cutting_17)
-
-pub place_entries-missing-requires : goal.place_entries-missing-requires
-place_entries-missing-requires c = search (rules, cutting_17)
-
-pub refused_at-requires : goal.refused_at-requires
-refused_at-requires c = search (rules, cutting_17)
-
 pub returns-then-missing-n : goal.returns-then-missing-n
-returns-then-missing-n c = record { answer = search cutting_17; buffer = search cutting_17 }
+returns-then-missing-n c =
+    let rows : c.from-n.result ≡ node_count c.args.network.now = search rules in
+    record { answer = search (cutting_17, rows); buffer = search (cutting_17, rows) }
 
-pub number_rows-requires : goal.number_rows-requires
-number_rows-requires c = search (rules, cutting_17)
+pub invariant_of-entered : goal.invariant_of-entered
+invariant_of-entered c =
+    let rows : c.from-n.result ≡ node_count c.args.network.now = search rules in
+    record { checked = search rules; formed = search rules; noted = search (cutting_17, rows) }
+
+pub invariant_of-fragment : goal.invariant_of-fragment
+invariant_of-fragment c =
+    let rows : c.from-n.result ≡ node_count c.args.network.now = search rules in
+    record { numbered = search (fragments_numbered, rows, rules) }
 
 pub cut_entered-requires : goal.cut_entered-requires
-cut_entered-requires c = (search (cutting_17, all_rows), search rules, search cutting_17)
-
-pub shape_of-out : goal.shape_of-out
-shape_of-out c = search (rules, cutting_17)
+cut_entered-requires c =
+    let rows : c.from-n.result ≡ node_count c.args.network.now = search rules in
+    record { filled = search rules; entered = search (cutting_17, rows) }

@@ -13,15 +13,15 @@ enum_known-r c = search (rules, judging)
 pub enum_known-form : goal.enum_known-form
 enum_known-form c = search (rules, judging)
 
-pub search-requires : goal.search-requires
-search-requires c =
+pub new-requires : goal.new-requires
+new-requires c =
     search (
       rules,
       prepared_after _ _ c.prepare.result c.prepare.ensures.numbers (λ i. (c.type_inv.network i).fits) (λ i. (c.type_inv.list i).fits),
     )
 
-pub returns-in-Refused : goal.returns-in-Refused
-returns-in-Refused c = search (rules, judging)
+pub returns-in-Err : goal.returns-in-Err
+returns-in-Err c = search (rules, judging)
 
-pub returns-in-Fine : goal.returns-in-Fine
-returns-in-Fine c = search (rules, judging)
+pub returns-in-Ok : goal.returns-in-Ok
+returns-in-Ok c = search (rules, judging)

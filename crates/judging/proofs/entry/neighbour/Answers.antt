@@ -1,5 +1,5 @@
 -- Empty where something is refused before the search (asked_refused), and else the part of the id (asked_named).
-use Rattle.judging.proofs.EntryLaws.{asking}
+use Rattle.judging.proofs.EntryLaws.{asking, asked_named}
 use Rattle.preparing.proofs.GivenLaws.{prepared_after}
 use borrow.Author.Rules.{rules}
 use Rattle.judging.proofs.entry.neighbour.Goals as goal
@@ -22,15 +22,17 @@ slice_bounds-result-end c = search (rules, asking)
 pub enum_known-form : goal.enum_known-form
 enum_known-form c = search (rules, asking)
 
-pub named_part-requires : goal.named_part-requires
-named_part-requires c =
+pub new-requires : goal.new-requires
+new-requires c =
     search (
       rules,
       prepared_after _ _ c.prepare.result c.prepare.ensures.numbers (λ i. (c.type_inv.network i).fits) (λ i. (c.type_inv.list i).fits),
     )
 
-pub returns-in-Refused : goal.returns-in-Refused
-returns-in-Refused c = search (rules, asking)
+pub returns-in-Err : goal.returns-in-Err
+returns-in-Err c = search (rules, asking)
 
-pub returns-in-Fine : goal.returns-in-Fine
-returns-in-Fine c = search (rules, asking)
+pub returns-in-Ok : goal.returns-in-Ok
+returns-in-Ok c =
+    let named = rw (c.new.ensures.form, c.new.ensures.network, c.new.ensures.list) at c.named_part.ensures in
+    asked_named _ _ _ c.prepare.ensures.numbers _ c.in-Ok.is _ _ named

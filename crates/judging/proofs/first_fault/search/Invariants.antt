@@ -5,14 +5,11 @@ use Prim.Native.Nat.{◌-◌}
 use lib.ListN.{length}
 use Rattle.judging.proofs.first_fault.search.Given as goal
 
-abbrev pub invariant-loop-wire : goal.invariant-loop-wire
-invariant-loop-wire l = Wiring l.form l.network l.list l.rows l.stands l.n l.i l.count l.row l.node l.due l.wire
+abbrev pub invariant-loop-due : goal.invariant-loop-due
+invariant-loop-due l = Wiring l.form l.network l.proposal.list.now l.n l.count l.row l.node l.due l.wire
 
-abbrev pub decreases-loop-wire : goal.decreases-loop-wire
-decreases-loop-wire l = length l.network - l.wire.at
+abbrev pub decreases-loop-due : goal.decreases-loop-due
+decreases-loop-due l = length l.network - l.wire.at
 
 abbrev pub invariant-nodes : goal.invariant-nodes
-invariant-nodes l = Searching l.form l.network l.list l.rows l.stands l.n l.i l.count l.wire
-
-abbrev pub decreases-nodes : goal.decreases-nodes
-decreases-nodes l = l.n - l.i
+invariant-nodes l = Searching l.form l.network l.proposal.list.now l.n l.row l.count l.wire

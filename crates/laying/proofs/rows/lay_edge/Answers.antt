@@ -7,11 +7,11 @@ use Rattle.laying.proofs.rows.lay_edge.Goals as goal
 pub u16_at-requires : goal.u16_at-requires
 u16_at-requires c = search (rules, reaching)
 
-pub row_in-requires : goal.row_in-requires
-row_in-requires c = search (rules, reaching)
+pub row_in-to-requires : goal.row_in-to-requires
+row_in-to-requires c = search (rules, reaching)
 
-pub returns-then-fragments-row_in : goal.returns-then-fragments-row_in
-returns-then-fragments-row_in c = record { size = search (reaching, runs); laid = search (reaching, runs) }
+pub returns-then-wires-to : goal.returns-then-wires-to
+returns-then-wires-to c = record { size = search (reaching, runs); laid = search (reaching, runs) }
 
 pub put_edge-requires : goal.put_edge-requires
 put_edge-requires c = (search reaching, search reaching)

@@ -10,11 +10,11 @@ overflow_cast-nodes c = search recording
 pub overflow_cast-edges : goal.overflow_cast-edges
 overflow_cast-edges c = search recording
 
-pub returns-then-short : goal.returns-then-short
-returns-then-short c = record { size = search recording; laid = search recording }
+pub returns-then-out-size : goal.returns-then-out-size
+returns-then-out-size c = record { size = search recording; laid = search recording }
 
 pub lay_parts-requires : goal.lay_parts-requires
-lay_parts-requires c = record { node_tables = (search recording, search rules, search rules, search rules, search rules); fragment_parts = search recording }
+lay_parts-requires c = record { notes = search recording; filled = search rules; room = (search rules, search rules); fragment_parts = search recording }
 
 pub returns : goal.returns
 returns c = record { size = search recording; laid = search rules }

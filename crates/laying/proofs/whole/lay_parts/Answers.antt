@@ -26,7 +26,7 @@ pub slice_bounds-lay_nodes-start : goal.slice_bounds-lay_nodes-start
 slice_bounds-lay_nodes-start c = search laid_parts
 
 pub lay_nodes-requires : goal.lay_nodes-requires
-lay_nodes-requires c = record { node_tables = search rules; room = search laid_parts }
+lay_nodes-requires c = record { notes = search rules; room = search laid_parts }
 
 pub overflow_add-b : goal.overflow_add-b
 overflow_add-b c = search laid_parts
@@ -38,7 +38,7 @@ pub slice_bounds-lay_edges-start : goal.slice_bounds-lay_edges-start
 slice_bounds-lay_edges-start c = search laid_parts
 
 pub lay_edges-requires : goal.lay_edges-requires
-lay_edges-requires c = record { checked_network = (search rules, search rules); room = search laid_parts }
+lay_edges-requires c = search laid_parts
 
 pub returns : goal.returns
 returns c = search laid_parts

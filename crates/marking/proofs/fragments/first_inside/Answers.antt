@@ -11,12 +11,6 @@ is_outside-requires c = search (rules, seeking)
 pub returns-then-not-is_outside : goal.returns-then-not-is_outside
 returns-then-not-is_outside c = search (rules, seeking)
 
-pub overflow_add-i : goal.overflow_add-i
-overflow_add-i c = search (rules, seeking)
-
-pub loop-i-smaller : goal.loop-i-smaller
-loop-i-smaller c = search (rules, seeking)
-
 pub loop-i-preserved : goal.loop-i-preserved
 loop-i-preserved c = search (rules, seeking)
 

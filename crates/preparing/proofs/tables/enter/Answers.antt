@@ -9,14 +9,11 @@ place_entries-row-requires c = search (rules, entering)
 pub u16_at-requires : goal.u16_at-requires
 u16_at-requires c = search (rules, entering)
 
-pub wide16-requires : goal.wide16-requires
-wide16-requires c = search (rules, entering)
-
 pub refused_at-requires : goal.refused_at-requires
 refused_at-requires c = search (rules, entering)
 
-pub returns-then-row-wide16 : goal.returns-then-row-wide16
-returns-then-row-wide16 c = search (rules, entering)
+pub returns-then-row-from : goal.returns-then-row-from
+returns-then-row-from c = search (rules, entering)
 
 pub fill_stands-requires : goal.fill_stands-requires
 fill_stands-requires c = search (rules, entering)

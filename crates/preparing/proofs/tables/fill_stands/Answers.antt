@@ -5,9 +5,6 @@ use Rattle.preparing.proofs.tables.fill_stands.Goals as goal
 pub u16_at-requires : goal.u16_at-requires
 u16_at-requires c = search (rules, filling)
 
-pub wide16-n-requires : goal.wide16-n-requires
-wide16-n-requires c = search (rules, filling)
-
 pub loop-i-init : goal.loop-i-init
 loop-i-init c = search (rules, filling)
 
@@ -17,9 +14,6 @@ offset_bounds-places-i c = search (rules, filling)
 pub bounds-places-i : goal.bounds-places-i
 bounds-places-i c = search (rules, filling)
 
-pub wide16-requires : goal.wide16-requires
-wide16-requires c = search (rules, filling)
-
 pub stand_at-requires : goal.stand_at-requires
 stand_at-requires c = search (rules, filling)
 
@@ -28,12 +22,6 @@ offset_bounds-stands-i c = search (rules, filling)
 
 pub bounds-stands-i : goal.bounds-stands-i
 bounds-stands-i c = search (rules, filling)
-
-pub overflow_add-i : goal.overflow_add-i
-overflow_add-i c = search (rules, filling)
-
-pub loop-i-smaller : goal.loop-i-smaller
-loop-i-smaller c = search (rules, filling)
 
 pub loop-i-preserved : goal.loop-i-preserved
 loop-i-preserved c = search (rules, filling)

@@ -1,10 +1,6 @@
 -- The rows before i are in the table, and all else is as it was (Filling).
 use Rattle.preparing.proofs.StandLaws.{Filling}
-use Prim.Native.Nat.{◌-◌}
 use Rattle.preparing.proofs.tables.fill_stands.Given as goal
 
 abbrev pub invariant-loop-i : goal.invariant-loop-i
 invariant-loop-i l = Filling l.form l.network l.places l.initial.stands l.stands l.n l.i
-
-abbrev pub decreases-loop-i : goal.decreases-loop-i
-decreases-loop-i l = l.n - l.i

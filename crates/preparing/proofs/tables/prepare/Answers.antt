@@ -1,40 +1,30 @@
 -- The network's refusals (network_refused), the list's (list_refused), and then what the entries give (records_entered).
-use Rattle.preparing.proofs.PrepareLaws.{preparing, list_checked}
+use Rattle.std.proofs.Common.{◌≡◌, Err}
+use Rattle.preparing.proofs.PrepareLaws.{preparing, list_checked, list_refused, list_refused_rows, refused_stands}
 use Rattle.records.proofs.Checked.{network_checked}
 use borrow.Author.Rules.{rules}
 use Rattle.preparing.proofs.tables.prepare.Goals as goal
-
-pub check_network_rows-requires : goal.check_network_rows-requires
-check_network_rows-requires c = search (rules, preparing)
-
-pub enum_known-r : goal.enum_known-r
-enum_known-r c = search (rules, preparing)
-
-pub enum_known-form : goal.enum_known-form
-enum_known-form c = search (rules, preparing)
-
-pub check_list-requires : goal.check_list-requires
-check_list-requires c = search (rules, preparing)
-
-pub enum_known-r-in-Refused-check_list : goal.enum_known-r-in-Refused-check_list
-enum_known-r-in-Refused-check_list c = search (rules, preparing)
-
-pub enum_told-1 : goal.enum_told-1
-enum_told-1 c = search (rules, preparing)
 
 pub enter-requires : goal.enter-requires
 enter-requires c =
     let n = c.check_network_rows in
     let l = c.check_list in (
-      network_checked n.result _ c.in-Fine.is _ n.ensures.numbers (λ i. (c.type_inv.network i).fits),
-      list_checked _ _ n.result n.ensures.numbers l.result l.ensures (λ i. (c.type_inv.list i).fits) _ c.in-Fine.is _ c.in-Fine-check_list.is,
+      network_checked n.result _ c.in_ok-form.was _ n.ensures.numbers (λ i. (c.type_inv.network i).fits),
+      list_checked _ _ n.result n.ensures.numbers l.result l.ensures (λ i. (c.type_inv.list i).fits) _ c.in_ok-form.was _ c.in_ok-check_list.was,
     )
 
-pub returns-in-Refused : goal.returns-in-Refused
-returns-in-Refused c = search (rules, preparing)
+pub returns-in_err-form : goal.returns-in_err-form
+returns-in_err-form c = search (rules, preparing, c.in_err-form.was)
 
-pub returns-in-Refused-check_list : goal.returns-in-Refused-check_list
-returns-in-Refused-check_list c = search (rules, preparing)
+pub returns-in_err-check_list : goal.returns-in_err-check_list
+returns-in_err-check_list c =
+    let n = c.check_network_rows in
+    let refused : c.from_residual-in_err-check_list.result ≡ Err c.in_err-check_list.field-0.0 = search rules in
+    record {
+      numbers = list_refused _ _ n.result n.ensures.numbers _ c.in_ok-form.was _ c.check_list.ensures _ c.in_err-check_list.was _ refused;
+      rows = list_refused_rows _ _ n.result n.ensures.numbers _ c.in_ok-form.was _ c.check_list.ensures _ c.in_err-check_list.was _ refused _ _ n.ensures.table;
+      stands = refused_stands _ _ _ _ _ refused;
+    }
 
-pub returns-in-Fine-check_list : goal.returns-in-Fine-check_list
-returns-in-Fine-check_list c = search (rules, preparing)
+pub returns : goal.returns
+returns c = search (rules, preparing, c.in_ok-form.was, c.in_ok-check_list.was)

@@ -8,9 +8,6 @@ use Rattle.tracing.proofs.entry.place_shown.Goals as goal
 pub is_owned-requires : goal.is_owned-requires
 is_owned-requires c = search (rules, showings, answering)
 
-pub wide16-requires : goal.wide16-requires
-wide16-requires c = search (rules, showings, answering)
-
 pub verdict_line-requires : goal.verdict_line-requires
 verdict_line-requires c = search (rules, showings, answering)
 

@@ -21,21 +21,21 @@ place_line-requires c = search (rules, entering, answering)
 pub enum_known-form : goal.enum_known-form
 enum_known-form c = search (rules, entering, answering)
 
-pub place_shown-requires : goal.place_shown-requires
-place_shown-requires c =
+pub new-requires : goal.new-requires
+new-requires c =
     search (
       rules,
       prepared_after _ _ c.prepare.result c.prepare.ensures.numbers (λ i. (c.type_inv.network i).fits) (λ i. (c.type_inv.list i).fits),
     )
 
-pub shape_of-out-in-Refused : goal.shape_of-out-in-Refused
-shape_of-out-in-Refused c = search (rules, entering, answering)
+pub shape_of-out-in-Err : goal.shape_of-out-in-Err
+shape_of-out-in-Err c = search (rules, entering, answering)
 
-pub returns-in-Refused : goal.returns-in-Refused
-returns-in-Refused c = record { count = search (answering, entering); short = search line_short; text = search (answering, entering) }
+pub returns-in-Err : goal.returns-in-Err
+returns-in-Err c = record { count = search (answering, entering); short = search line_short; text = search (answering, entering) }
 
-pub shape_of-out-in-Fine : goal.shape_of-out-in-Fine
-shape_of-out-in-Fine c = search (rules, entering, answering)
+pub shape_of-out-in-Ok : goal.shape_of-out-in-Ok
+shape_of-out-in-Ok c = search (rules, entering, answering)
 
-pub returns-in-Fine : goal.returns-in-Fine
-returns-in-Fine c = record { count = search (answering, entering); short = search rules; text = search (answering, entering) }
+pub returns-in-Ok : goal.returns-in-Ok
+returns-in-Ok c = record { count = search (answering, entering); short = search rules; text = search (answering, entering) }

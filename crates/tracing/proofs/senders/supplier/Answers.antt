@@ -1,23 +1,17 @@
 use Rattle.tracing.proofs.SenderLaws.{supplying}
 use Rattle.boxes.proofs.WireLaws.{offers}
-use Rattle.preparing.proofs.PreparedLaws.{prepared_checked}
+use Rattle.preparing.proofs.PreparedLaws.{prepared}
 use borrow.Author.Rules.{rules}
 use Rattle.tracing.proofs.senders.supplier.Goals as goal
 
 pub wire_into-wire-requires : goal.wire_into-wire-requires
-wire_into-wire-requires c = search prepared_checked
+wire_into-wire-requires c = search prepared
 
-pub loop-wire-init : goal.loop-wire-init
-loop-wire-init c = search (rules, supplying, offers)
-
-pub wide16-requires : goal.wide16-requires
-wide16-requires c = search (rules, supplying, offers)
+pub loop-network-init : goal.loop-network-init
+loop-network-init c = search (rules, supplying, prepared)
 
 pub offer-requires : goal.offer-requires
-offer-requires c = search (rules, supplying, offers)
-
-pub same-requires : goal.same-requires
-same-requires c = search (rules, supplying, offers)
+offer-requires c = search supplying
 
 pub overflow_add-wire : goal.overflow_add-wire
 overflow_add-wire c = search (rules, supplying, offers)
@@ -26,16 +20,16 @@ pub u16_at-requires : goal.u16_at-requires
 u16_at-requires c = search (rules, supplying, offers)
 
 pub returns-then-same : goal.returns-then-same
-returns-then-same c = search supplying
+returns-then-same c = search (rules, supplying)
 
 pub wire_behind-wire-requires : goal.wire_behind-wire-requires
-wire_behind-wire-requires c = (search supplying, search supplying)
+wire_behind-wire-requires c = (search (rules, prepared), search supplying)
 
-pub loop-wire-smaller : goal.loop-wire-smaller
-loop-wire-smaller c = search (rules, supplying, offers)
+pub loop-network-smaller : goal.loop-network-smaller
+loop-network-smaller c = search (rules, supplying)
 
-pub loop-wire-preserved : goal.loop-wire-preserved
-loop-wire-preserved c = search (rules, supplying, offers)
+pub loop-network-preserved : goal.loop-network-preserved
+loop-network-preserved c = search (rules, supplying)
 
 pub returns : goal.returns
-returns c = search supplying
+returns c = search (rules, supplying)

@@ -4,8 +4,8 @@ use Prim.Native.Nat.{◌-◌}
 use lib.ListN.{length}
 use Rattle.tracing.proofs.senders.supplier.Given as goal
 
-abbrev pub invariant-loop-wire : goal.invariant-loop-wire
-invariant-loop-wire l = Supplying l.form l.network l.list l.rows l.stands l.id l.route l.wire
+abbrev pub invariant-loop-network : goal.invariant-loop-network
+invariant-loop-network l = Supplying l.form l.network l.lookup.proposal.list.now l.id l.route l.wire
 
-abbrev pub decreases-loop-wire : goal.decreases-loop-wire
-decreases-loop-wire l = length l.network - l.wire.at
+abbrev pub decreases-loop-network : goal.decreases-loop-network
+decreases-loop-network l = length l.network - l.wire.at
