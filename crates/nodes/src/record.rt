@@ -43,7 +43,7 @@ impl<'a> NetworkRecord<'a> {
     // The offset of the node in a row; behind the last one the edges begin.
     pub fn node_offset(&self, row: usize) -> usize
         requires { row ≤ 65535 }
-        ensures { result ≡ node_offset self.now.form self.now.bytes.now row }
+        ensures { (result ≡ node_offset self.now.form self.now.bytes.now row) × (result ≤ 4197629) }
     {
         node_offset(self.form, self.bytes, row)
     }

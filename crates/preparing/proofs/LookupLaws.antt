@@ -3,8 +3,9 @@
 --     box_parts     a box's route, by its row
 --     box_routes    what its bytes say
 --     naming        whether a node has the id
-use mathlib.Core.Path.{◌≡◌, refl, ap, ◌∙◌}
-use mathlib.Core.Bool.{Bool, true, false, cond}
+use mathlib.Core.Path.{◌≡◌, refl, sym, ap, ◌∙◌}
+use mathlib.Core.Bool.{Bool, true, false, cond, not}
+use borrow.Author.Tests.{not-true, not-false}
 use mathlib.Core.List.{List, []}
 use Prim.Native.Nat.{ℕ, ◌+◌, ◌-◌, ◌*◌, ◌^◌, ◌≤◌, ◌<◌}
 use native.Mathlib.Omega.{arith}
@@ -14,7 +15,7 @@ use mir.Val.{Fits}
 use Rattle.records.specs.Edge.{boxed}
 use Rattle.layout.specs.Layout.{node_count}
 use Rattle.nodes.specs.Node.{row_of, is_own}
-use Rattle.records.proofs.RowLaws.{row_within, row_found, mark_none, mark_boxed}
+use Rattle.records.proofs.RowLaws.{row_within, row_found}
 use Rattle.routes.specs.Carry.{highest}
 use Rattle.routes.specs.Form.{route_at}
 use Rattle.routes.specs.declared.Route.{Route}
@@ -132,14 +133,14 @@ module _ (f : Form) (network list rows stands : List ℕ) (h : Prepared f networ
 pub ruleset box_routes = (route_wide, route_room, route_is)
 
 -- whether a node has the id
-module _ (f : Form) (network list rows stands : List ℕ) (h : Prepared f network list rows stands) (id : ℕ) (small : id < 65536) where
-  pub named_nobody : get_or rows id 0 ≡ 0 → [] ≡ named_part f network list id
+module _ (f : Form) (network list : List ℕ) (id : ℕ) (t : Bool) (e : t ≡ boxed f network id) where
+  pub named_nobody : not t ≡ true → [] ≡ named_part f network list id
   unfolding named_part
-  named_nobody z = rw (mark_none f network id rows (get_or rows id 0) (prepared_filled f network list rows stands h) small refl z)
+  named_nobody y = let h : boxed f network id ≡ false = sym e ∙ not-true t y in rw h
 
-  module _ (n : get_or rows id 0 ≡ 0 → ⊥) where
+  module _ (y : not t ≡ false) where
     pub named_boxed : boxed f network id ≡ true
-    named_boxed = mark_boxed f network id rows (get_or rows id 0) (prepared_filled f network list rows stands h) small refl n
+    named_boxed = sym e ∙ not-false t y
 
     pub named_box : (x : List ℕ) → x ≡ row_part f network list (row_of f network id) → x ≡ named_part f network list id
     unfolding named_part

@@ -3,17 +3,17 @@ ghost use Rattle.preparing.specs.Prepared.{Standing, Prepared};
 ghost use Rattle.preparing.specs.Once.{standing_once, prepared_once};
 
 use layout::{Form, ROWS};
-use records::row_in;
+use nodes::NetworkRecord;
+use records::TabledNetwork;
 use routes::{Route, route_at};
 
 // A proposal with the network that it is for, and where the route of each row stands: what `prepare` leaves.
 #[derive(Clone, Copy)]
 pub struct Proposal<'a, 't> {
-    pub form: Form,
-    pub network: &'a [u8],
+    pub network: NetworkRecord<'a>,
     pub list: &'a [u8],
     pub stands: &'t [usize; ROWS],
-    pub ghost standing: { Standing form network.now list.now stands.now } by { standing_once _ _ _ _ },
+    pub ghost standing: { Standing network.form network.bytes.now list.now stands.now } by { standing_once _ _ _ _ },
 }
 
 // The same with the row of each id, by which a neighbour's route is looked up.
@@ -21,7 +21,7 @@ pub struct Proposal<'a, 't> {
 pub struct Lookup<'a, 't> {
     pub proposal: Proposal<'a, 't>,
     pub rows: &'t [u16; 65536],
-    pub ghost prepared: { Prepared proposal.form proposal.network.now proposal.list.now rows.now proposal.stands.now } by { prepared_once _ _ _ _ _ },
+    pub ghost prepared: { Prepared proposal.network.form proposal.network.bytes.now proposal.list.now rows.now proposal.stands.now } by { prepared_once _ _ _ _ _ },
 }
 
 impl<'a, 't> Proposal<'a, 't> {
@@ -31,14 +31,15 @@ impl<'a, 't> Proposal<'a, 't> {
 
     // The route bytes of the node in a row: in the list for an own box, in the network for an input.
     pub fn row_part(&self, row: usize) -> &'a [u8]
-        requires { row < node_count self.now.network.now }
-        ensures { result.now ≡ row_part self.now.form self.now.network.now self.now.list.now row }
+        requires { row < node_count self.now.network.bytes.now }
+        ensures { result.now ≡ row_part self.now.network.form self.now.network.bytes.now self.now.list.now row }
     {
-        let width = self.form.route;
+        let width = self.network.form.route;
         let at = self.stands[row];
-        let n = self.network.len();
+        let bytes = self.network.bytes;
+        let n = bytes.len();
         if at < n {
-            return &self.network[at..at + width];
+            return &bytes[at..at + width];
         }
         let from = at - n;
         &self.list[from..from + width]
@@ -64,14 +65,17 @@ impl<'a, 't> Lookup<'a, 't> {
         stands: &'t [usize; ROWS],
     ) -> Self
         requires { Prepared form network.now list.now rows.now stands.now }
-        ensures form { result.proposal.form ≡ form }
-        ensures network { result.proposal.network.now ≡ network.now }
+        ensures form { result.proposal.network.form ≡ form }
+        ensures network { result.proposal.network.bytes.now ≡ network.now }
         ensures list { result.proposal.list.now ≡ list.now }
         ensures rows { result.rows.now ≡ rows.now }
         ensures stands { result.proposal.stands.now ≡ stands.now }
     {
-        let proposal = Proposal {
+        let network = NetworkRecord {
             form,
+            bytes: network,
+        };
+        let proposal = Proposal {
             network,
             list,
             stands,
@@ -79,29 +83,39 @@ impl<'a, 't> Lookup<'a, 't> {
         Lookup { proposal, rows }
     }
 
+    // The network with its table from ids to rows.
+    pub fn table(&self) -> TabledNetwork<'a, 't>
+        ensures form { result.network.form ≡ self.now.proposal.network.form }
+        ensures network { result.network.bytes.now ≡ self.now.proposal.network.bytes.now }
+    {
+        TabledNetwork {
+            network: self.proposal.network,
+            rows: self.rows,
+        }
+    }
+
     // The route bytes of the box with an id.
     pub fn box_part(&self, id: u16) -> &'a [u8]
-        requires { boxed self.now.proposal.form self.now.proposal.network.now id ≡ true }
-        ensures { result.now ≡ row_part self.now.proposal.form self.now.proposal.network.now self.now.proposal.list.now (row_of self.now.proposal.form self.now.proposal.network.now id) }
+        requires { boxed self.now.proposal.network.form self.now.proposal.network.bytes.now id ≡ true }
+        ensures { result.now ≡ row_part self.now.proposal.network.form self.now.proposal.network.bytes.now self.now.proposal.list.now (row_of self.now.proposal.network.form self.now.proposal.network.bytes.now id) }
     {
-        let proposal = self.proposal;
-        proposal.row_part(row_in(proposal.form, proposal.network, self.rows, id))
+        self.proposal.row_part(self.table().row_in(id))
     }
 
     // The route that the box with an id holds: an own box by the list, an input by assumption.
     pub fn box_route(&self, id: u16) -> Route
-        requires { boxed self.now.proposal.form self.now.proposal.network.now id ≡ true }
-        ensures { result ≡ mapping (house highest) (read_network self.now.proposal.form self.now.proposal.network.now) (read_list self.now.proposal.form self.now.proposal.list.now) id }
+        requires { boxed self.now.proposal.network.form self.now.proposal.network.bytes.now id ≡ true }
+        ensures { result ≡ mapping (house highest) (read_network self.now.proposal.network.form self.now.proposal.network.bytes.now) (read_list self.now.proposal.network.form self.now.proposal.list.now) id }
     {
-        route_at(self.proposal.form.route, self.box_part(id), 0)
+        route_at(self.proposal.network.form.route, self.box_part(id), 0)
     }
 
     // The route bytes of the box with an id, or an empty part where no node has it.
     pub fn named_part(&self, id: u16) -> &'a [u8]
-        ensures { result.now ≡ named_part self.now.proposal.form self.now.proposal.network.now self.now.proposal.list.now id }
+        ensures { result.now ≡ named_part self.now.proposal.network.form self.now.proposal.network.bytes.now self.now.proposal.list.now id }
     {
-        if self.rows[usize::from(id)] == 0 {
-            return &self.proposal.network[0..0];
+        if !self.table().is_boxed(id) {
+            return &self.proposal.network.bytes[0..0];
         }
         self.box_part(id)
     }

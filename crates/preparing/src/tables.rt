@@ -8,52 +8,50 @@ ghost use Rattle.records.specs.Checked.{CheckedNetwork, CheckedEntries};
 ghost use Rattle.records.specs.Rows.{RowsAfter};
 ghost use Rattle.preparing.specs.Prepared.{stand_at, placed_in, with_stands, stands_after, lacking_refusal, prepare_refusal};
 
-use entries::check_list;
-use layout::{Class, Form, LIST_LEAD, NODES_FIELD, ROWS, Refusal, entry_offset, node_offset};
-use nodes::{is_own, refused_at};
-use numbers::u16_at;
+use entries::{EntriesRecord, check_list};
+use layout::{Class, Form, LIST_LEAD, ROUTE_FIELD, ROWS, Refusal, entry_offset};
+use nodes::NetworkRecord;
 use records::{check_network_rows, place_entries};
 
 // Where the route of the node in row i stands, whose entry, if it is an own box, is in a row of the list.
-fn stand_at(form: Form, network: &[u8], i: usize, entry: usize) -> usize
-    requires { CheckedNetwork form network.now × (i < node_count network.now) × (entry ≤ 65535) }
-    ensures { result ≡ stand_at form network.now i entry }
+fn stand_at(network: &NetworkRecord, i: usize, entry: usize) -> usize
+    requires { CheckedNetwork network.now.form network.now.bytes.now × (i < node_count network.now.bytes.now) × (entry ≤ 65535) }
+    ensures { result ≡ stand_at network.now.form network.now.bytes.now i entry }
 {
-    let own = is_own(form, network, i);
-    if own {
-        return network.len() + (entry_offset(form, LIST_LEAD, entry) + LIST_LEAD);
+    if network.is_own(i) {
+        return network.bytes.len() + (entry_offset(network.form, LIST_LEAD, entry) + LIST_LEAD);
     }
-    node_offset(form, network, i) + 3
+    network.node_offset(i) + ROUTE_FIELD
 }
 
 // Fills the table of where routes stand, from the table of entries.
-fn fill_stands(form: Form, network: &[u8], places: &[u16; ROWS], stands: &mut [usize; ROWS])
-    requires { CheckedNetwork form network.now }
-    ensures { stands.new ≡ with_stands form network.now (placed_in places.now) stands.old }
+fn fill_stands(network: &NetworkRecord, places: &[u16; ROWS], stands: &mut [usize; ROWS])
+    requires { CheckedNetwork network.now.form network.now.bytes.now }
+    ensures { stands.new ≡ with_stands network.now.form network.now.bytes.now (placed_in places.now) stands.old }
 {
-    let n = usize::from(u16_at(network, NODES_FIELD));
-    for i in 0..n {
-        stands[i] = stand_at(form, network, i, usize::from(places[i]));
+    for i in 0..network.node_count() {
+        stands[i] = stand_at(network, i, usize::from(places[i]));
     }
 }
 
 // Number 17, and where that does not apply the table of where routes stand.
-fn enter(
-    form: Form,
-    network: &[u8],
-    list: &[u8],
-    stands: &mut [usize; ROWS],
-) -> Result<Form, Refusal>
-    requires { CheckedNetwork form network.now × CheckedEntries form list_lead list.now }
-    ensures numbers { check_answer result ≡ lacking_refusal form network.now list.now }
-    ensures table { stands.new ≡ stands_after network.now list.now result stands.old }
+fn enter(network: &NetworkRecord, list: &[u8], stands: &mut [usize; ROWS]) -> Result<Form, Refusal>
+    requires { CheckedNetwork network.now.form network.now.bytes.now × CheckedEntries network.now.form list_lead list.now }
+    ensures numbers { check_answer result ≡ lacking_refusal network.now.form network.now.bytes.now list.now }
+    ensures table { stands.new ≡ stands_after network.now.bytes.now list.now result stands.old }
 {
     let mut places = [0u16; ROWS];
-    let row = place_entries(form, LIST_LEAD, network, list, &mut places);
-    if row < usize::from(u16_at(network, NODES_FIELD)) {
-        return Err(refused_at(Class::NoEntry, form, network, row));
+    let form = network.form;
+    let entries = EntriesRecord {
+        form,
+        lead: LIST_LEAD,
+        bytes: list,
+    };
+    let row = place_entries(network, &entries, &mut places);
+    if row < network.node_count() {
+        return Err(network.refused_at(Class::NoEntry, row));
     }
-    fill_stands(form, network, &places, stands);
+    fill_stands(network, &places, stands);
     Ok(form)
 }
 
@@ -72,5 +70,9 @@ pub fn prepare(
 {
     let form = check_network_rows(network, rows)?;
     check_list(list)?;
-    enter(form, network, list, stands)
+    let record = NetworkRecord {
+        form,
+        bytes: network,
+    };
+    enter(&record, list, stands)
 }

@@ -6,14 +6,11 @@ use Rattle.preparing.proofs.tables.enter.Goals as goal
 pub place_entries-row-requires : goal.place_entries-row-requires
 place_entries-row-requires c = search (rules, entering)
 
-pub u16_at-requires : goal.u16_at-requires
-u16_at-requires c = search (rules, entering)
-
 pub refused_at-requires : goal.refused_at-requires
 refused_at-requires c = search (rules, entering)
 
-pub returns-then-row-from : goal.returns-then-row-from
-returns-then-row-from c = search (rules, entering)
+pub returns-then-row-node_count : goal.returns-then-row-node_count
+returns-then-row-node_count c = search (rules, entering)
 
 pub fill_stands-requires : goal.fill_stands-requires
 fill_stands-requires c = search (rules, entering)

@@ -2,9 +2,6 @@ use Rattle.preparing.proofs.StandLaws.{filling}
 use borrow.Author.Rules.{rules}
 use Rattle.preparing.proofs.tables.fill_stands.Goals as goal
 
-pub u16_at-requires : goal.u16_at-requires
-u16_at-requires c = search (rules, filling)
-
 pub loop-i-init : goal.loop-i-init
 loop-i-init c = search (rules, filling)
 

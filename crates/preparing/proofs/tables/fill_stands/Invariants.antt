@@ -3,4 +3,4 @@ use Rattle.preparing.proofs.StandLaws.{Filling}
 use Rattle.preparing.proofs.tables.fill_stands.Given as goal
 
 abbrev pub invariant-loop-i : goal.invariant-loop-i
-invariant-loop-i l = Filling l.form l.network l.places l.initial.stands l.stands l.n l.i
+invariant-loop-i l = Filling l.network.form l.network.bytes.now l.places l.initial.stands l.stands l.i-end l.i

@@ -5,6 +5,11 @@ use Rattle.records.proofs.Checked.{network_checked}
 use borrow.Author.Rules.{rules}
 use Rattle.preparing.proofs.tables.prepare.Goals as goal
 
+pub invariant_of-record : goal.invariant_of-record
+invariant_of-record c =
+    let n = c.check_network_rows in
+    record { room = (network_checked n.result _ c.in_ok-form.was _ n.ensures.numbers (λ i. (c.type_inv.network i).fits)).room }
+
 pub enter-requires : goal.enter-requires
 enter-requires c =
     let n = c.check_network_rows in
