@@ -1,17 +1,15 @@
 // The greatest records that are read and the least that are not, each made in a buffer, checked, and printed with the
 // number and the place of its refusal, or 0 and 0; and joins: the greatest joint networks that are given, with 0 and the record's length, and
-// the least that are refused. What is small is proved in the definitions of `records` instead.
+// the least that are refused. What is small is proved in the definitions of `records` instead. A line that cannot be written is left out.
 #![tactic(auto)]
 
 ghost use Rattle.std.specs.Prelude.{◌+◌, ◌≤◌};
 
+use entries::{check_list, check_sheet};
 use joining::join;
-use layout::{Check, LARGEST_NETWORK, Refusal, number_of};
+use layout::{Form, LARGEST_NETWORK, Refusal};
 use numbers::{put_u16, put_u32};
-use outcomes::Outcome;
-
-// Standard output.
-const STDOUT: i32 = 1;
+use records::check_network;
 
 // Stores a count as two bytes.
 fn put(out: &mut [u8; 40000], at: usize, v: usize)
@@ -33,11 +31,9 @@ fn put_numbers(out: &mut [u8; 40000], base: usize, size: usize, first: usize, n:
     requires { (base ≤ 1000) × (2 ≤ size) × (size ≤ 27) × (first ≤ 1000) × (n ≤ 513) }
 {
     let mut o = base;
-    let mut i = 0;
-    while i < n {
+    for i in 0..n {
         put(out, o, first + i);
         o += size;
-        i += 1;
     }
 }
 
@@ -46,13 +42,10 @@ fn put_numbers(out: &mut [u8; 40000], base: usize, size: usize, first: usize, n:
 fn put_edges(out: &mut [u8; 40000], base: usize, first: usize, n: usize)
     requires { (base ≤ 16000) × (first ≤ 1000) × (n ≤ 4097) }
 {
-    let mut o = base;
-    let mut j = 0;
-    while j < n {
+    for j in 0..n {
+        let o = base + 5 * j;
         put(out, o, first + j / 200);
         put(out, o + 2, first + 30 + j % 200);
-        o += 5;
-        j += 1;
     }
 }
 
@@ -89,177 +82,120 @@ fn put_entries(out: &mut [u8; 40000], size: usize, n: usize, total: usize)
     put_numbers(out, 7, size, 1, n);
 }
 
-// Prints a number and a space.
-fn print(n: usize) {
-    io::print_decimal(STDOUT, n as u64);
-    io::write_all(STDOUT, b" ");
+// Prints the end of a line: 0 and a length, or the number and the place of the refusal.
+fn print_end(rt: &HostRuntime, outcome: Result<usize, Refusal>) {
+    let _ = match outcome {
+        Ok(length) => println!(rt; ": 0 {length}"),
+        Err(refusal) => println!(rt; ": {} {}", u8::from(refusal.class), refusal.place),
+    };
 }
 
-// Prints the end of a line: a number and a place.
-fn print_end(number: u8, place: usize) {
-    io::write_all(STDOUT, b": ");
-    io::print_decimal(STDOUT, number as u64);
-    io::write_all(STDOUT, b" ");
-    io::print_decimal(STDOUT, place as u64);
-    io::write_all(STDOUT, b"\n");
-}
-
-fn print_refusal(refusal: Refusal) {
-    let class = refusal.class;
-    print_end(number_of(class), refusal.place);
-}
-
-// Prints what a check finds.
-fn print_check(check: Check) {
-    match check {
-        Check::Fine(_) => print_end(0, 0),
-        Check::Refused(refusal) => print_refusal(refusal),
-    }
-}
-
-// Prints what a join answers.
-fn print_outcome(outcome: Outcome) {
-    match outcome {
-        Outcome::Done(length) => print_end(0, length),
-        Outcome::Refused(refusal) => print_refusal(refusal),
-    }
-}
-
-fn print_network(out: [u8; 40000], length: usize)
-    requires { length ≤ 40000 }
-{
-    print_check(records::check_network(&out[0..length]));
-}
-
-fn print_list(out: [u8; 40000], length: usize)
-    requires { length ≤ 40000 }
-{
-    print_check(entries::check_list(&out[0..length]));
-}
-
-fn print_sheet(out: [u8; 40000], length: usize)
-    requires { length ≤ 40000 }
-{
-    print_check(entries::check_sheet(&out[0..length]));
-}
-
-// Joins two networks in a buffer of some bytes.
-fn print_join(one: [u8; 40000], length: usize, other: [u8; 40000], behind: usize, room: usize)
-    requires { (length ≤ 40000) × (behind ≤ 40000) × (room ≤ 40000) }
-{
-    let mut out = [0u8; 40000];
-    print_outcome(join(&one[0..length], &other[0..behind], &mut out[0..room]));
+// The same of a check, whose form is not printed: 0 and 0.
+fn print_check(rt: &HostRuntime, check: Result<Form, Refusal>) {
+    print_end(rt, check.map(|_| 0));
 }
 
 // A network with these counts.
-fn try_network(nodes: usize, edges: usize, policies: usize)
+fn try_network(rt: &HostRuntime, nodes: usize, edges: usize, policies: usize)
     requires { (nodes ≤ 513) × (edges ≤ 4097) × (policies ≤ 65) }
 {
     let mut out = [0u8; 40000];
     let total = put_network(&mut out, 1, nodes, edges, policies);
-    io::write_all(STDOUT, b"network ");
-    print(nodes);
-    print(edges);
-    print(policies);
-    print_network(out, total);
+    let _ = print!(rt; "network {nodes} {edges} {policies} ");
+    print_check(rt, check_network(&out[0..total]));
 }
 
 // One node and 64 policies, of which one adds 0. There is no edge, so that none is used.
-fn try_added(policy: usize)
+fn try_added(rt: &HostRuntime, policy: usize)
     requires { policy ≤ 63 }
 {
     let mut out = [0u8; 40000];
     let total = put_network(&mut out, 1, 1, 0, 64);
     put(&mut out, 21 + 13 * policy, 0);
-    io::write_all(STDOUT, b"0 added by policy ");
-    print(policy);
-    print_network(out, total);
+    let _ = print!(rt; "0 added by policy {policy} ");
+    print_check(rt, check_network(&out[0..total]));
 }
 
 // The largest network, cut to a length or with bytes behind it.
-fn try_length(length: usize)
+fn try_length(rt: &HostRuntime, length: usize)
     requires { length ≤ 40000 }
 {
     let mut out = [0u8; 40000];
     put_network(&mut out, 1, 512, 4096, 64);
-    io::write_all(STDOUT, b"bytes of the largest network ");
-    print(length);
-    print_network(out, length);
+    let _ = print!(rt; "bytes of the largest network {length} ");
+    print_check(rt, check_network(&out[0..length]));
 }
 
 // A network of n nodes and e edges and one of m nodes and d edges, with 64 policies each and the ids of the second behind those of the first,
 // joined in a buffer of some bytes.
-fn try_join(n: usize, e: usize, m: usize, d: usize, room: usize)
+fn try_join(rt: &HostRuntime, n: usize, e: usize, m: usize, d: usize, room: usize)
     requires { (n ≤ 513) × (e ≤ 4097) × (m ≤ 513) × (d ≤ 4097) × (room ≤ 40000) }
 {
     let mut one = [0u8; 40000];
     let length = put_network(&mut one, 1, n, e, 64);
     let mut other = [0u8; 40000];
     let behind = put_network(&mut other, 1 + n, m, d, 64);
-    io::write_all(STDOUT, b"join ");
-    print(n);
-    print(e);
-    print(m);
-    print(d);
-    io::write_all(STDOUT, b"in ");
-    print(room);
-    print_join(one, length, other, behind, room);
+    let mut out = [0u8; 40000];
+    let _ = print!(rt; "join {n} {e} {m} {d} in {room} ");
+    print_end(
+        rt,
+        join(&one[0..length], &other[0..behind], &mut out[0..room]),
+    );
 }
 
 // A route list with this many entries.
-fn try_list(n: usize)
+fn try_list(rt: &HostRuntime, n: usize)
     requires { n ≤ 513 }
 {
     let mut out = [0u8; 40000];
     let total = 7 + 11 * n;
     put_entries(&mut out, 11, n, total);
-    io::write_all(STDOUT, b"list ");
-    print(n);
-    print_list(out, total);
+    let _ = print!(rt; "list {n} ");
+    print_check(rt, check_list(&out[0..total]));
 }
 
 // A sheet with this many entries.
-fn try_sheet(n: usize)
+fn try_sheet(rt: &HostRuntime, n: usize)
     requires { n ≤ 513 }
 {
     let mut out = [0u8; 40000];
     let total = 7 + 12 * n;
     put_entries(&mut out, 12, n, total);
-    io::write_all(STDOUT, b"sheet ");
-    print(n);
-    print_sheet(out, total);
+    let _ = print!(rt; "sheet {n} ");
+    print_check(rt, check_sheet(&out[0..total]));
 }
 
-fn main() {
-    try_network(0, 0, 0);
-    try_network(1, 0, 0);
-    try_network(512, 0, 0);
-    try_network(513, 0, 0);
-    try_network(512, 4096, 1);
-    try_network(512, 4097, 1);
-    try_network(1, 0, 64);
-    try_network(1, 0, 65);
-    try_network(512, 4096, 64);
-    try_added(0);
-    try_added(63);
-    try_length(9);
-    try_length(10);
-    try_length(LARGEST_NETWORK - 1);
-    try_length(LARGEST_NETWORK);
-    try_length(LARGEST_NETWORK + 1);
-    try_list(0);
-    try_list(512);
-    try_list(513);
-    try_sheet(0);
-    try_sheet(512);
-    try_sheet(513);
-    try_join(511, 4096, 1, 0, LARGEST_NETWORK);
-    try_join(256, 2048, 256, 2048, LARGEST_NETWORK);
-    try_join(256, 2048, 256, 2048, LARGEST_NETWORK - 1);
-    try_join(256, 2048, 257, 2048, LARGEST_NETWORK);
-    try_join(512, 0, 1, 0, LARGEST_NETWORK);
-    try_join(512, 0, 512, 0, LARGEST_NETWORK);
-    try_join(256, 2048, 256, 2049, LARGEST_NETWORK);
-    try_join(256, 4096, 256, 1, LARGEST_NETWORK);
-    try_join(256, 2048, 257, 2049, LARGEST_NETWORK);
+fn main(rt: HostRuntime) {
+    let rt = &rt;
+    try_network(rt, 0, 0, 0);
+    try_network(rt, 1, 0, 0);
+    try_network(rt, 512, 0, 0);
+    try_network(rt, 513, 0, 0);
+    try_network(rt, 512, 4096, 1);
+    try_network(rt, 512, 4097, 1);
+    try_network(rt, 1, 0, 64);
+    try_network(rt, 1, 0, 65);
+    try_network(rt, 512, 4096, 64);
+    try_added(rt, 0);
+    try_added(rt, 63);
+    try_length(rt, 9);
+    try_length(rt, 10);
+    try_length(rt, LARGEST_NETWORK - 1);
+    try_length(rt, LARGEST_NETWORK);
+    try_length(rt, LARGEST_NETWORK + 1);
+    try_list(rt, 0);
+    try_list(rt, 512);
+    try_list(rt, 513);
+    try_sheet(rt, 0);
+    try_sheet(rt, 512);
+    try_sheet(rt, 513);
+    try_join(rt, 511, 4096, 1, 0, LARGEST_NETWORK);
+    try_join(rt, 256, 2048, 256, 2048, LARGEST_NETWORK);
+    try_join(rt, 256, 2048, 256, 2048, LARGEST_NETWORK - 1);
+    try_join(rt, 256, 2048, 257, 2048, LARGEST_NETWORK);
+    try_join(rt, 512, 0, 1, 0, LARGEST_NETWORK);
+    try_join(rt, 512, 0, 512, 0, LARGEST_NETWORK);
+    try_join(rt, 256, 2048, 256, 2049, LARGEST_NETWORK);
+    try_join(rt, 256, 4096, 256, 1, LARGEST_NETWORK);
+    try_join(rt, 256, 2048, 257, 2049, LARGEST_NETWORK);
 }

@@ -2,9 +2,12 @@
 --     wires_from, into              the wires from a row on, and those of them that lead to a box
 --     wires_start, wire_other, wire_mine, wires_skipped     one wire, and the wires to lower boxes, passed over
 --     edges_rise, to_climbs, wires_past     wires by their to end
+--     leads, leads_..              whether a wire leads to a box
 --     NextAt, next_..              the next wire, as the code holds it, is the j-th
-use Rattle.std.proofs.Common.{Some, None}
+use Rattle.std.proofs.Common.{Option, Some, None}
+use Rattle.std.specs.Option.{option_eq}
 use mathlib.Core.Path.{◌≡◌, sym, ap, ap₂, ◌∙◌}
+use mathlib.Core.Bool.{Bool, true, false, not}
 use mathlib.Core.List.{List, [], ◌∷◌}
 use mathlib.Core.Logic.{⊎_elim}
 use Prim.Native.Nat.{ℕ, zero, suc, ◌+◌, ◌-◌, ◌≤◌, ◌<◌}
@@ -13,6 +16,7 @@ use native.Mathlib.Numerals.{add-one}
 use native.Mathlib.Omega.{arith}
 use lib.Dec.{eqb}
 use lib.ListN.{length}
+use borrow.Author.Rules.{rules}
 use borrow.Author.Tests.{eq-eqb, ne_eqb, lt-ltb, le-ltb}
 use Rattle.lists.specs.Filter.{filter}
 use Rattle.lists.specs.Rising.{Rising, least}
@@ -106,6 +110,19 @@ some_same a b = ap (elim [ None ↦ 0 | Some x ↦ x ])
 
 some_none : (a : ℕ) → Some a ≡ None → ⊥
 some_none a e = let z : ◌≡◌ {A = ℕ} 1 0 = ap (elim [ None ↦ 0 | Some x ↦ 1 ]) e in omega arith
+
+-- whether a wire leads to a box, by the test of its to end
+module _ (id : ℕ) (t : Bool) where
+  pub leads : (to : Option ℕ) → t ≡ option_eq eqb to (Some id) → t ≡ true → to ≡ Some id
+  leads None e y = search rules
+  leads (Some k) e y = search rules
+
+  pub leads_here : (to : Option ℕ) → t ≡ not (option_eq eqb to (Some id)) → t ≡ false → to ≡ Some id
+  leads_here None e y = search rules
+  leads_here (Some k) e y = search rules
+
+  pub leads_elsewhere : (to : Option ℕ) → t ≡ not (option_eq eqb to (Some id)) → t ≡ true → to ≡ Some id → ⊥
+  leads_elsewhere to e y q = search rules
 
 -- the next wire is the j-th
 pub record NextAt (f : Form) (network : List ℕ) (wire : NextWire) (j : ℕ) : Type 0 where

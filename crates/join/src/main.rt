@@ -2,37 +2,37 @@
 // refusal.
 #![tactic(auto)]
 
-ghost use Rattle.std.specs.Prelude.{◌≤◌, ◌<◌, length};
-ghost use Rattle.streams.specs.Answers.{Answers};
+ghost use Rattle.layout.specs.Form.{widest};
+ghost use Rattle.reading.specs.Largest.{largest_network};
 ghost use Rattle.joining.specs.Text.{join_text, join_bound};
+ghost use Rattle.joining.proofs.Starts.{join_start};
 
 use joining::{LARGEST, LONGEST, join_bytes};
-use streams::{Input, read_input, write_output};
+use streams::{Program, run};
 
-// Writes the answer. No contract can say what a call of C's writes, so what is written is said where it is asked: the joiner's output
-// on the input of which so many bytes were read into the room.
-fn write_answer(rt: &HostRuntime, room: &[u8], count: usize, output: &[u8])
-    requires { Answers join_text room.now count output.now }
-{
-    write_output(rt, output, b"join: the answer could not be written\n");
+struct Join;
+
+impl Program for Join {
+    ghost text = { join_text };
+
+    ghost bound = { join_bound };
+
+    ghost longest = { largest_network widest };
+
+    const UNREAD: &'static [u8] = b"join: standard input could not be read\n";
+
+    const UNWRITTEN: &'static [u8] = b"join: the answer could not be written\n";
+
+    fn answer(&self, input: &[u8], out: &mut [u8]) -> usize {
+        join_bytes(input, out)
+    }
+
+    ghost bounded = { join_start };
 }
 
-// Joins what was read. The room holds more than the longest input, so that a longer one shows; no joint network is longer than the largest
-// one.
-fn answer(rt: &HostRuntime, room: &[u8], count: usize)
-    requires { (join_bound < length room.now) × (count ≤ length room.now) }
-{
-    let mut output = [0u8; LARGEST];
-    let length = join_bytes(&room[0..count], &mut output);
-    write_answer(rt, room, count, &output[0..length]);
-}
-
-// What could not be read to its end is not joined.
+// No joint network is longer than the largest one.
 fn main(rt: HostRuntime) {
     let mut room = [0u8; LONGEST + 1];
-    let Input::Read(count) = read_input(&rt, &mut room, b"join: standard input could not be read\n")
-    else {
-        return;
-    };
-    answer(&rt, &room, count);
+    let mut output = [0u8; LARGEST];
+    run(&rt, &Join, &mut room, &mut output);
 }

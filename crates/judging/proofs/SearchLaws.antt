@@ -47,7 +47,7 @@ use Rattle.boxes.specs.declared.Fault.TheVariants.{Due, Promise, Demand}
 use Rattle.boxes.specs.declared.NextWire.{NextWire}
 use Rattle.boxes.specs.declared.OwnBox.{OwnBox}
 use Rattle.judging.proofs.LeftLaws.{stopped_at, Skipped, DueFrom, Left, skip_start, left_start, wire_skips, wire_due, due_past, skip_more, due_start, left_end, left_input, left_fault}
-use Rattle.boxes.proofs.IntoLaws.{to_climbs, NextAt, next_at, next_there, next_into, next_wire, next_less, next_next, next_past}
+use Rattle.boxes.proofs.IntoLaws.{to_climbs, leads_here, leads_elsewhere, NextAt, next_at, next_there, next_into, next_wire, next_less, next_next, next_past}
 
 -- The next wire is the j-th, and those before it lead to boxes below lo.
 pub record Next (f : Form) (network list : List ℕ) (wire : NextWire) (lo j : ℕ) : Type 0 where
@@ -319,4 +319,4 @@ module _ (f : Form) (network list : List ℕ) (n count row node : ℕ) (u : Rout
 
 pub ruleset searching = (search_start, search_pass, search_row, search_count, search_input, search_wires)
 
-pub ruleset wiring = (wiring_less, wiring_next, wiring_end)
+pub ruleset wiring = (leads_here, leads_elsewhere, wiring_less, wiring_wire, wiring_next, wiring_due, wiring_promise, wiring_demand, wiring_end)

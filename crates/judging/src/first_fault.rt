@@ -31,15 +31,17 @@ pub fn search(lookup: &Lookup<'_, '_>) -> Verdict
         let mut due = own.initial;
         loop {
             if wire.to != Some(node) {
-                match fault_at(proposal, row, due) {
-                    None => continue 'nodes,
-                    Some(Fault::Due(route)) => {
+                let Some(fault) = fault_at(proposal, row, due) else {
+                    continue 'nodes;
+                };
+                match fault {
+                    Fault::Due(route) => {
                         return Verdict::NotDue(Finding { node, count, route });
                     }
-                    Some(Fault::Promise(route)) => {
+                    Fault::Promise(route) => {
                         return Verdict::PromiseBroken(Finding { node, count, route });
                     }
-                    Some(Fault::Demand(route)) => {
+                    Fault::Demand(route) => {
                         return Verdict::DemandUnmet(Finding { node, count, route });
                     }
                 }

@@ -19,7 +19,6 @@ ghost use Rattle.joining.specs.Text.{join_text, join_bound};
 ghost use Rattle.reading.specs.Largest.{largest_network};
 ghost use Rattle.lines.specs.Line.{longest_line};
 
-use layout::{Check, number_of};
 use lines::LONGEST_LINE;
 use records::check_network;
 
@@ -30,14 +29,13 @@ pub fn lnianotka_check(network: &[u8], place: &mut usize) -> u8
     ensures offset { place.new ≡ place_in (network_refusal network.now) }
 {
     match check_network(network) {
-        Check::Fine(_) => {
+        Ok(_) => {
             *place = 0;
             0
         }
-        Check::Refused(refusal) => {
-            let class = refusal.class;
+        Err(refusal) => {
             *place = refusal.place;
-            number_of(class)
+            u8::from(refusal.class)
         }
     }
 }

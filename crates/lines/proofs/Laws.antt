@@ -10,7 +10,7 @@ use Prim.Native.Nat.{ℕ, ◌+◌, ◌-◌, ◌*◌, ◌^◌, ◌≤◌, ◌<◌
 use native.Mathlib.Nat.{min-eq_left, min-eq_right, sub-zero}
 use native.Mathlib.Numerals.{add-one}
 use native.Mathlib.Omega.{arith}
-use lib.ListN.{length, get_or, set, take, drop, length-set}
+use lib.ListN.{length, get_or, set, take, drop}
 use lib.Seq.{sets, set_out, take-suc, take_all, length-take-le}
 use borrow.Author.Tests.{lt-ltb, le-ltb}
 use Rattle.io.specs.Digits.{last_digits as digits, IsDigitCount}
@@ -65,31 +65,22 @@ byte_out room at byte h = sym (set_out room at byte h)
 
 -- what the loop of a word knows: the first i of its bytes are put
 pub record Putting (word before after : List ℕ) (at i : ℕ) : Type 0 where
-  pub within : i ≤ length word
   pub put : after ≡ sets before at (take i word)
-  pub long : length after ≡ length before
 
 pub putting_start : (word room : List ℕ) (at : ℕ) → Putting word room room at 0
-putting_start word room at = record { within = omega arith; put = refl; long = refl }
+putting_start word room at = record { put = refl }
 
 module _ (word before after : List ℕ) (at i : ℕ) (p : Putting word before after at i) where
   pub putting_next : (after' : List ℕ) → i < length word → after' ≡ set after (at + i) (get_or word i 0) → Putting word before after' at (i + 1)
   putting_next after' h e =
-      let n : length (take i word) ≡ i = length-take-le i word p.within in
-      record {
-        within = omega arith;
-        put = e ∙ rw (p.put, add-one, take-suc word i 0 h, sets_append before at (take i word) (get_or word i 0 ∷ []), n);
-        long = ap length e ∙ length-set after (at + i) (get_or word i 0) ∙ p.long;
-      }
+      let n : length (take i word) ≡ i = length-take-le i word (omega arith) in
+      record { put = e ∙ rw (p.put, add-one, take-suc word i 0 h, sets_append before at (take i word) (get_or word i 0 ∷ []), n) }
 
-  pub putting_end : length word ≤ i → Written word before at after (at + i)
+  pub putting_end : length word ≤ i → Written word before at after (at + length word)
   unfolding Written
-  putting_end h = let n = p.within in (rw (take_all i word h) at p.put, omega arith)
+  putting_end h = (rw (take_all i word h) at p.put, refl)
 
-  pub putting_count : length word ≤ i → at + i ≡ at + length word
-  putting_count h = let n = p.within in omega arith
-
-pub ruleset putting = (putting_start, putting_next, putting_end, putting_count)
+pub ruleset putting = (putting_start, putting_next, putting_end)
 
 -- a number's digits, in the room of the conversion
 module _ (n k at : ℕ) (ds : List ℕ) (small : n < 2 ^ 64) (few : IsDigitCount 10 1 n k) (e : take k ds ≡ digits 10 k n) where
@@ -111,54 +102,48 @@ pub ruleset numbering = (digits_room, number_written, number_near)
 
 -- what the loop over numbers knows: the first i of them are put
 pub record Adding (ns before after : List ℕ) (at next i : ℕ) : Type 0 where
-  pub within : i ≤ length ns
   pub added : Written (spaced (map decimal (take i ns))) before at after next
   pub near : next ≤ at + 21 * i
-  pub long : length after ≡ length before
 
 pub adding_start : (ns room : List ℕ) (at : ℕ) → Adding ns room room at at 0
 unfolding Written spaced
-adding_start ns room at = record { within = omega arith; added = (refl, omega arith); near = omega arith; long = refl }
+adding_start ns room at = record { added = (refl, omega arith); near = omega arith }
 
 module _ (ns before after : List ℕ) (at next i : ℕ) (a : Adding ns before after at next i) where
   pub adding_space : i < length ns → at + 21 * length ns < 2 ^ 64 → next + 1 < 2 ^ 64
   adding_space h r = let n = a.near in omega arith
 
   pub adding_next : (mid after' : List ℕ) (digits next' : ℕ) → i < length ns → Written (text " ") after next mid digits → digits ≡ next + 1
-      → Written (decimal (get_or ns i 0)) mid digits after' next' → next' ≤ digits + 20 → length mid ≡ length after → length after' ≡ length mid
-      → Adding ns before after' at next' (i + 1)
-  adding_next mid after' digits next' h s q w n l l' =
+      → Written (decimal (get_or ns i 0)) mid digits after' next' → next' ≤ digits + 20 → Adding ns before after' at next' (i + 1)
+  adding_next mid after' digits next' h s q w n =
       let m = a.near in
       let e : map decimal (take (i + 1) ns) ≡ map decimal (take i ns) ++ (decimal (get_or ns i 0) ∷ []) =
       rw (add-one, take-suc ns i 0 h, map-append decimal (take i ns) (get_or ns i 0 ∷ [])) in
       let v = written_spaced after mid after' (decimal (get_or ns i 0)) next digits next' s w in
       record {
-        within = omega arith;
         added = rw e (written_words before after after' (map decimal (take i ns)) (decimal (get_or ns i 0) ∷ []) at next next' a.added v);
         near = omega arith;
-        long = l' ∙ l ∙ a.long;
       }
 
-  module _ (h : length ns ≤ i) where
-    pub added_all : Written (spaced (map decimal ns)) before at after next
-    added_all = rw (take_all i ns h) at a.added
+  pub added_all : length ns ≤ i → Written (spaced (map decimal ns)) before at after next
+  added_all h = rw (take_all i ns h) at a.added
 
-    pub added_near : next ≤ at + 21 * length ns
-    added_near = let n = a.near in let m = a.within in omega arith
+  pub added_near : i ≤ length ns → next ≤ at + 21 * length ns
+  added_near h = let n = a.near in omega arith
 
 pub ruleset adding = (adding_start, adding_space, adding_next, added_all, added_near)
 
--- a route, by its case
+-- a route, by its case, and by its fields as the code widens them
 module _ (a b : List ℕ) (i j : ℕ) (route : Route) where
   pub route_none : route ≡ None → Written (text " none") a i b j → Written (spaced (route_words route)) a i b j
   unfolding route_words spaced
   route_none e w = rw e w
 
-  pub route_held : (f : Fields) → route ≡ Held f
-      → Written (spaced (decimal f.preference ∷ decimal f.cost ∷ decimal f.origin ∷ decimal f.tags ∷ [])) a i b j
-      → Written (spaced (route_words route)) a i b j
+  pub route_held : (f : Fields) (preference cost origin tags : ℕ) → route ≡ Held f
+      → Written (spaced (decimal preference ∷ decimal cost ∷ decimal origin ∷ decimal tags ∷ [])) a i b j
+      → preference ≡ f.preference → cost ≡ f.cost → origin ≡ f.origin → tags ≡ f.tags → Written (spaced (route_words route)) a i b j
   unfolding route_words
-  route_held f e w = rw e w
+  route_held f preference cost origin tags e w p c o t = rw (e, ← p, ← c, ← o, ← t) w
 
 -- a line, by its kind
 module _ (a b c d : List ℕ) (i j k l : ℕ) where

@@ -6,7 +6,6 @@ ghost use Rattle.lines.specs.Written.{Written};
 
 use crate::Line;
 use crate::words::{add_numbers, add_route, put_number, put_word};
-use numbers::wide16;
 use routes::Route;
 
 // The bytes of a number behind its space.
@@ -48,7 +47,7 @@ pub fn put_box(id: u16, route: Route, room: &mut [u8], at: usize) -> usize
     requires { at + longest_box_line < 2 ^ 64 }
     ensures { Written (box_line id route) room.old at room.new result × (result ≤ at + longest_box_line) }
 {
-    let next = put_number(wide16(id), room, at);
+    let next = put_number(usize::from(id), room, at);
     let next = add_route(route, room, next);
     put_word(b"\n", room, next)
 }

@@ -35,9 +35,5 @@ pub fn named_id(rest: &[u8]) -> u16
 pub fn named_length(rest: &[u8]) -> usize
     ensures { result ≡ min 2 (length rest.now) }
 {
-    let all = rest.len();
-    if all < 2 {
-        return all;
-    }
-    2
+    rest.len().min(2)
 }

@@ -24,12 +24,10 @@ pub fn put_word(word: &[u8], room: &mut [u8], at: usize) -> usize
     requires { at + length word.now < 2 ^ 64 }
     ensures { Written word.now room.old at room.new result × (result ≡ at + length word.now) }
 {
-    let mut i = 0;
-    while i < word.len() {
-        put_byte(word[i], room, at + i);
-        i += 1;
+    for (i, byte) in word.iter().enumerate() {
+        put_byte(*byte, room, at + i);
     }
-    at + i
+    at + word.len()
 }
 
 // Puts a number's digits.
@@ -49,11 +47,9 @@ pub fn add_numbers(numbers: &[usize], room: &mut [u8], at: usize) -> usize
     ensures upper_bound { result ≤ at + 21 * length numbers.now }
 {
     let mut next = at;
-    let mut i = 0;
-    while i < numbers.len() {
+    for n in numbers {
         next = put_word(b" ", room, next);
-        next = put_number(numbers[i], room, next);
-        i += 1;
+        next = put_number(*n, room, next);
     }
     next
 }
@@ -66,9 +62,9 @@ pub fn add_route(route: Route, room: &mut [u8], at: usize) -> usize
     let Route::Held(f) = route else {
         return put_word(b" none", room, at);
     };
-    let preference = f.preference as usize;
-    let cost = f.cost as usize;
-    let origin = f.origin as usize;
-    let tags = f.tags as usize;
+    let preference = usize::from(f.preference);
+    let cost = usize::from(f.cost);
+    let origin = usize::from(f.origin);
+    let tags = usize::from(f.tags);
     add_numbers(&[preference, cost, origin, tags], room, at)
 }

@@ -13,10 +13,12 @@ use native.Mathlib.Omega.{arith}
 use lib.Dec.{eqb}
 use lib.ListN.{length, get_or}
 use mir.Syntax.{w16, w64}
-use mir.Val.{Fits}
+use mir.Val.{Fits, bool_byte}
 use borrow.Author.Tests.{not-true, not-false, eqb-true, eqb-false}
+use Rattle.lists.specs.First.{first_bad}
 use Rattle.lists.specs.Gather.{count}
-use Rattle.lists.proofs.Gather.{count_none, count_next, count_le}
+use Rattle.lists.proofs.Gather.{count_none, count_next, count_le, count_one, count_most}
+use Rattle.lists.proofs.Walk.{Seek, seek_end}
 use Rattle.routes.specs.Carry.{highest}
 use Rattle.routes.specs.Form.{route_at}
 use Rattle.routes.specs.Order.{same}
@@ -99,11 +101,12 @@ module _ (f : Form) (b : List ℕ) (id : ℕ) where
 
 -- the table tells whether b has the id
 module _ (f : Form) (b : List ℕ) (id : ℕ) (rows : List ℕ) (filled : Filled f b rows) (m : Fits w16 id) where
-  pub looked_up : (get_or rows id 0 ≡ 0 → ⊥) → boxed f b id ≡ true
-  looked_up z = mark_boxed f b id rows (get_or rows id 0) filled (omega arith) refl z
+  module _ (x : ℕ) (e : x ≡ id) where
+    pub looked_up : (get_or rows x 0 ≡ 0 → ⊥) → boxed f b id ≡ true
+    looked_up z = mark_boxed f b id rows (get_or rows x 0) filled (omega arith) (rw e) z
 
-  pub not_there : get_or rows id 0 ≡ 0 → boxed f b id ≡ false
-  not_there z = mark_none f b id rows (get_or rows id 0) filled (omega arith) refl z
+    pub not_there : get_or rows x 0 ≡ 0 → boxed f b id ≡ false
+    not_there z = mark_none f b id rows (get_or rows x 0) filled (omega arith) (rw e) z
 
 module _ (f : Form) (a b : List ℕ) (i : ℕ) (t : Bool) (e : t ≡ is_own f a i) where
   pub own_matched : t ≡ true → true ≡ row_matched f a b i
@@ -128,8 +131,8 @@ unfolding in_other
 in_table f a b i id q rows filled m = go (eqb (get_or rows id 0) 0) refl
   where
     go : (t : Bool) → eqb (get_or rows id 0) 0 ≡ t → not t ≡ boxed f b (node_id f a i)
-    go true e = rw (← q) (sym (not_there f b id rows filled m (eqb-true (get_or rows id 0) 0 e)))
-    go false e = rw (← q) (sym (looked_up f b id rows filled m (eqb-false (get_or rows id 0) 0 e)))
+    go true e = rw (← q) (sym (not_there f b id rows filled m id refl (eqb-true (get_or rows id 0) 0 e)))
+    go false e = rw (← q) (sym (looked_up f b id rows filled m id refl (eqb-false (get_or rows id 0) 0 e)))
 
 -- what the loop that counts them knows
 pub record Sharing (f : Form) (a b : List ℕ) (n i so_far : ℕ) : Type 0 where
@@ -144,24 +147,21 @@ module _ (f : Form) (a b : List ℕ) (n : ℕ) where
     pub sharing_end : (m : ℕ) → n ≤ i → n ≡ m → m ≡ node_count a → so_far ≡ count (in_other f a b) (node_count a)
     sharing_end m l p q = let e : i ≡ node_count a = let w = s.within in omega arith in s.counts ∙ ap (count (in_other f a b)) e
 
-    module _ (l : i < n) (t : Bool) (one : ℕ) (q : t ≡ in_other f a b i) (e : one ≡ cond t 1 0) where
-      one_small : (u : Bool) → cond u 1 0 ≤ 1
-      one_small true = omega arith
-      one_small false = omega arith
-
-      pub sharing_fits : Fits w64 n → Fits w64 (so_far + one)
-      sharing_fits g = let h = one_small t in let w = s.counts in omega (arith, count_le (in_other f a b) i)
+    module _ (l : i < n) (t : Bool) (one : ℕ) (q : t ≡ in_other f a b i) (e : one ≡ bool_byte t) where
+      pub sharing_fits : (m : ℕ) → n ≡ m → m < 65536 → Fits w64 (so_far + one)
+      sharing_fits m p g = let h = count_most t in let w = s.counts in omega (arith, count_le (in_other f a b) i)
 
       pub sharing_next : Sharing f a b n (i + 1) (so_far + one)
-      sharing_next = record { within = omega arith; counts = rw (s.counts, e, q) (sym (count_next (in_other f a b) i)) }
+      sharing_next = record { within = omega arith; counts = rw (s.counts, e, count_one t, q) (sym (count_next (in_other f a b) i)) }
 
 -- a row of the loop is one of the record's
 pub row_in : (i n m c : ℕ) → i < n → n ≡ m → m ≡ c → i < c
 row_in i n m c l p q = omega arith
 
-pub rows_out : (i n m c : ℕ) → n ≤ i → n ≡ m → m ≡ c → c ≤ i
-rows_out i n m c l p q = omega arith
+-- behind the last row no row has failed the test
+pub rows_end : (ok : ℕ → Bool) (n m c i : ℕ) → Seek ok c i → n ≤ i → n ≡ m → m ≡ c → n ≡ first_bad ok c
+rows_end ok n m c i s l p q = let e : n ≡ c = p ∙ q in e ∙ seek_end ok c i s (omega arith)
 
-pub ruleset rowing = (row_in, rows_out)
+pub ruleset rowing = (row_in, rows_end)
 
 pub ruleset sharing = (row_in, sharing_start, sharing_end, sharing_fits, sharing_next)

@@ -4,8 +4,10 @@
 // It asks for two records of one form that a check has not refused.
 #![tactic(auto)]
 
+mod pair;
 mod policies;
 mod rows;
 
+pub use pair::Pair;
 pub use policies::alike_policies;
 pub use rows::{first_twice, first_unmatched, shared_rows};

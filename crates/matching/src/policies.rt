@@ -5,37 +5,33 @@ ghost use Rattle.lists.specs.First.{first_bad};
 ghost use Rattle.layout.specs.Layout.{policy_count};
 ghost use Rattle.routes.specs.Alike.{same_policy};
 ghost use Rattle.reading.specs.Whole.{read_network};
-ghost use Rattle.records.specs.Checked.{CheckedNetwork};
 ghost use Rattle.matching.specs.Policies.{policy_alike};
 
-use layout::{Form, POLICIES_FIELD, policy_offset};
-use numbers::wide;
+use crate::pair::Pair;
+use layout::{POLICIES_FIELD, policy_offset};
 use routes::{policy_at, same_policy};
 
 // The first of n policies that is not the other network's at its place, or n.
-fn first_unlike(form: Form, a: &[u8], b: &[u8], n: usize) -> usize
-    requires { CheckedNetwork form a.now × CheckedNetwork form b.now × (n ≡ policy_count a.now) × (n ≡ policy_count b.now) }
-    ensures { result ≡ first_bad (policy_alike a.now b.now) n }
+fn first_unlike(pair: Pair, n: usize) -> usize
+    requires { (n ≡ policy_count pair.first.now) × (n ≡ policy_count pair.second.now) }
+    ensures { let p = pair.entry in result ≡ first_bad (policy_alike p.first.now p.second.now) n }
 {
-    let mut i = 0;
-    while i < n {
+    for i in 0..n {
         let at = policy_offset(i);
-        if !same_policy(policy_at(a, at), policy_at(b, at)) {
+        if !same_policy(policy_at(pair.first, at), policy_at(pair.second, at)) {
             return i;
         }
-        i += 1;
     }
-    i
+    n
 }
 
 // Whether two networks have the same policies, in the same order.
-pub fn alike_policies(form: Form, a: &[u8], b: &[u8]) -> bool
-    requires { CheckedNetwork form a.now × CheckedNetwork form b.now }
-    ensures { result ≡ all_alike same_policy (read_network form a.now).policies (read_network form b.now).policies }
+pub fn alike_policies(pair: Pair) -> bool
+    ensures { let p = pair.entry in result ≡ all_alike same_policy (read_network p.form p.first.now).policies (read_network p.form p.second.now).policies }
 {
-    let n = wide(a[POLICIES_FIELD]);
-    if n != wide(b[POLICIES_FIELD]) {
+    let n = usize::from(pair.first[POLICIES_FIELD]);
+    if n != usize::from(pair.second[POLICIES_FIELD]) {
         return false;
     }
-    first_unlike(form, a, b, n) == n
+    first_unlike(pair, n) == n
 }

@@ -1,4 +1,4 @@
-// The rows of a network a, by what the network b has of their ids.
+// The rows of the first network, by what the second one has of their ids, which its table from ids to rows tells.
 ghost use Rattle.std.specs.Prelude.{◌≡◌, ◌<◌};
 ghost use Rattle.std.proofs.Math.Option.{some};
 ghost use Rattle.lists.specs.First.{first_bad};
@@ -8,43 +8,48 @@ ghost use Rattle.networks.specs.Join.{matched};
 ghost use Rattle.routes.specs.Carry.{highest};
 ghost use Rattle.reading.specs.House.{house};
 ghost use Rattle.reading.specs.Parts.{box_at};
-ghost use Rattle.records.specs.Checked.{CheckedNetwork, CheckedRows};
+ghost use Rattle.records.specs.Checked.{CheckedNetwork};
+ghost use Rattle.records.specs.Rows.{Filled};
 ghost use Rattle.matching.specs.Rows.{owned_once, row_matched, in_other};
 
+use crate::pair::Pair;
 use layout::{Form, NODES_FIELD, ROUTE_FIELD, node_offset};
 use nodes::{is_own, node_id, own_at, promising_at};
-use numbers::{one_if, u16_at};
+use numbers::u16_at;
 use records::{is_owned, row_in};
 use routes::{Route, route_at, same};
 
-// Whether the node in row i is no own one, or one that b does not own.
-fn owned_once(form: Form, a: &[u8], b: &[u8], rows: &[u16; 65536], i: usize) -> bool
-    requires { CheckedNetwork form a.now × CheckedRows form b.now rows.now × (i < node_count a.now) }
-    ensures { result ≡ owned_once form a.now b.now i }
+// Whether the node in row i is no own one, or one that the second network does not own.
+fn owned_once(pair: Pair, rows: &[u16; 65536], i: usize) -> bool
+    requires { Filled pair.form pair.second.now rows.now × (i < node_count pair.first.now) }
+    ensures { let p = pair.entry in result ≡ owned_once p.form p.first.now p.second.now i }
 {
-    if !is_own(form, a, i) {
+    let Pair {
+        form,
+        first,
+        second,
+    } = pair;
+    if !is_own(form, first, i) {
         return true;
     }
-    !is_owned(form, b, rows, node_id(form, a, i))
+    !is_owned(form, second, rows, node_id(form, first, i))
 }
 
-// The first row of an own node that b owns, too, or the number of rows.
-pub fn first_twice(form: Form, a: &[u8], b: &[u8], rows: &[u16; 65536]) -> usize
-    requires { CheckedNetwork form a.now × CheckedRows form b.now rows.now }
-    ensures { result ≡ first_bad (owned_once form a.now b.now) (node_count a.now) }
+// The first row of an own node that the second network owns, too, or the number of rows.
+pub fn first_twice(pair: Pair, rows: &[u16; 65536]) -> usize
+    requires { Filled pair.form pair.second.now rows.now }
+    ensures { let p = pair.entry in result ≡ first_bad (owned_once p.form p.first.now p.second.now) (node_count p.first.now) }
 {
-    let n = u16_at(a, NODES_FIELD) as usize;
-    let mut i = 0;
-    while i < n {
-        if !owned_once(form, a, b, rows, i) {
+    let n = usize::from(u16_at(pair.first, NODES_FIELD));
+    for i in 0..n {
+        if !owned_once(pair, rows, i) {
             return i;
         }
-        i += 1;
     }
-    i
+    n
 }
 
-// Whether the node in a row of b matches an assumption: an own one promises just this route, an input is assumed to hold it.
+// Whether the node in a row of a network matches an assumption: an own one promises just this route, an input is assumed to hold it.
 fn matches(form: Form, b: &[u8], row: usize, assumed: Route) -> bool
     requires { CheckedNetwork form b.now × (row < node_count b.now) }
     ensures { result ≡ matched (house highest) assumed (some (box_at form.route b.now (node_offset form b.now row))) }
@@ -60,57 +65,58 @@ fn matches(form: Form, b: &[u8], row: usize, assumed: Route) -> bool
     same(route_at(width, b, at + 4 + width), assumed)
 }
 
-// Whether the node in row i is an own one, or an input of which b says nothing else.
-fn row_matched(form: Form, a: &[u8], b: &[u8], rows: &[u16; 65536], i: usize) -> bool
-    requires { CheckedNetwork form a.now × CheckedRows form b.now rows.now × (i < node_count a.now) }
-    ensures { result ≡ row_matched form a.now b.now i }
+// Whether the node in row i is an own one, or an input of which the second network says nothing else.
+fn row_matched(pair: Pair, rows: &[u16; 65536], i: usize) -> bool
+    requires { Filled pair.form pair.second.now rows.now × (i < node_count pair.first.now) }
+    ensures { let p = pair.entry in result ≡ row_matched p.form p.first.now p.second.now i }
 {
-    if is_own(form, a, i) {
+    let Pair {
+        form,
+        first,
+        second,
+    } = pair;
+    if is_own(form, first, i) {
         return true;
     }
-    let id = node_id(form, a, i);
-    if rows[id as usize] == 0 {
+    let id = node_id(form, first, i);
+    if rows[usize::from(id)] == 0 {
         return true;
     }
-    let assumed = route_at(form.route, a, node_offset(form, a, i) + ROUTE_FIELD);
-    matches(form, b, row_in(form, b, rows, id), assumed)
+    let assumed = route_at(form.route, first, node_offset(form, first, i) + ROUTE_FIELD);
+    matches(form, second, row_in(form, second, rows, id), assumed)
 }
 
-// The first row of an input of which b says something else, or the number of rows.
-pub fn first_unmatched(form: Form, a: &[u8], b: &[u8], rows: &[u16; 65536]) -> usize
-    requires { CheckedNetwork form a.now × CheckedRows form b.now rows.now }
-    ensures { result ≡ first_bad (row_matched form a.now b.now) (node_count a.now) }
+// The first row of an input of which the second network says something else, or the number of rows.
+pub fn first_unmatched(pair: Pair, rows: &[u16; 65536]) -> usize
+    requires { Filled pair.form pair.second.now rows.now }
+    ensures { let p = pair.entry in result ≡ first_bad (row_matched p.form p.first.now p.second.now) (node_count p.first.now) }
 {
-    let n = u16_at(a, NODES_FIELD) as usize;
-    let mut i = 0;
-    while i < n {
-        if !row_matched(form, a, b, rows, i) {
+    let n = usize::from(u16_at(pair.first, NODES_FIELD));
+    for i in 0..n {
+        if !row_matched(pair, rows, i) {
             return i;
         }
-        i += 1;
     }
-    i
+    n
 }
 
-// Whether a node of b has the id of the node in row i.
-fn in_other(form: Form, a: &[u8], b: &[u8], rows: &[u16; 65536], i: usize) -> bool
-    requires { CheckedNetwork form a.now × CheckedRows form b.now rows.now × (i < node_count a.now) }
-    ensures { result ≡ in_other form a.now b.now i }
+// Whether a node of the second network has the id of the node in row i.
+fn in_other(pair: Pair, rows: &[u16; 65536], i: usize) -> bool
+    requires { Filled pair.form pair.second.now rows.now × (i < node_count pair.first.now) }
+    ensures { let p = pair.entry in result ≡ in_other p.form p.first.now p.second.now i }
 {
-    rows[node_id(form, a, i) as usize] != 0
+    rows[usize::from(node_id(pair.form, pair.first, i))] != 0
 }
 
-// How many nodes have an id that a node of b has.
-pub fn shared_rows(form: Form, a: &[u8], b: &[u8], rows: &[u16; 65536]) -> usize
-    requires { CheckedNetwork form a.now × CheckedRows form b.now rows.now }
-    ensures { result ≡ count (in_other form a.now b.now) (node_count a.now) }
+// How many nodes have an id that a node of the second network has.
+pub fn shared_rows(pair: Pair, rows: &[u16; 65536]) -> usize
+    requires { Filled pair.form pair.second.now rows.now }
+    ensures { let p = pair.entry in result ≡ count (in_other p.form p.first.now p.second.now) (node_count p.first.now) }
 {
-    let n = u16_at(a, NODES_FIELD) as usize;
+    let n = usize::from(u16_at(pair.first, NODES_FIELD));
     let mut shared = 0;
-    let mut i = 0;
-    while i < n {
-        shared += one_if(in_other(form, a, b, rows, i));
-        i += 1;
+    for i in 0..n {
+        shared += usize::from(in_other(pair, rows, i));
     }
     shared
 }

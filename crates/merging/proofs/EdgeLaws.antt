@@ -125,7 +125,7 @@ module _ (b : List ℕ) (limit n start : ℕ) where
         rw all (first_ext under (key_below f b p limit) (edge_count b - p) (λ i l. rw (key_at i) refl))
 
     module _ (k o : ℕ) (w : Run k o) where
-      pub run_end : n ≤ k → k ≡ run_below f b p limit
+      pub run_end : n ≤ k → n ≡ run_below f b p limit
       run_end l = walk_end (at start 5) under n k o w l ∙ same_run
 
       module _ (l : k < n) where

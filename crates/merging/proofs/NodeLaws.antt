@@ -12,11 +12,12 @@ use native.Mathlib.Omega.{arith}
 use lib.Dec.{eqb, leb, ltb}
 use lib.ListN.{length, get_or, take, drop}
 use mir.Syntax.{w64}
-use mir.Val.{Fits}
+use mir.Val.{Fits, bool_byte}
 use borrow.Author.Tests.{lt-ltb, le-ltb}
 use Rattle.lists.specs.Laid.{over}
 use Rattle.lists.specs.Rising.{least}
 use Rattle.lists.specs.Stride.{at}
+use Rattle.lists.proofs.Gather.{count_one, count_most}
 use Rattle.lists.proofs.Stride.{at_zero}
 use Rattle.lists.proofs.Test.{and_r}
 use Rattle.numbers.proofs.Codecs.{u16_below}
@@ -37,7 +38,7 @@ use Rattle.writing.specs.Rows.{NodeAt}
 use Rattle.writing.proofs.RowLaws.{box_long}
 use Rattle.merging.specs.Front.{front_id}
 use Rattle.merging.specs.Merged.{joined_in, nodes_merged, Two, Left, lower_box}
-use Rattle.merging.proofs.MergeLaws.{Table, Tables, Low, front, lower, left, whole, Merging, going_by, below_one, below_other, level, merge_start, merge_size, merge_done, some_left, merge_at, merge_fits, merge_sum, merge_next}
+use Rattle.merging.proofs.MergeLaws.{Table, Tables, Low, front, lower, left, whole, Merging, below_one, below_other, level, merge_start, merge_size, merge_done, some_left, merge_at, merge_fits, merge_sum, merge_next}
 
 abbrev pub node_table : Form → List ℕ → Table (Box Route Demand)
 node_table f b = record { value = box_at f.route b; base = node_part b; count = node_count b }
@@ -236,32 +237,28 @@ module _ (f : Form) (first second : List ℕ) where
           nodes_sum = merge_sum T (box_bytes f.route) nodes out₀ out p q k o c enough l (low two first two.one) (low two second two.other) r same_size
 
           pub nodes_next : (back : List ℕ) → back ≡ over (box_bytes f.route (lower_box f first second p q)) (take (length out - o) (drop o out))
-              → (i j s t : ℕ) → i ≡ front_id f first p → j ≡ front_id f second q → s ≡ going_by i j → t ≡ going_by j i
+              → (i j s t : ℕ) → i ≡ front_id f first p → j ≡ front_id f second q → s ≡ bool_byte (leb i j) → t ≡ bool_byte (leb j i)
               → NodeMerge nodes out₀ (take o out ++ (back ++ drop (length out - o) (drop o out))) (p + s) (q + t) (k + 1) (o + r)
           nodes_next back h i j s t u v x y =
               merge_next T (box_bytes f.route) nodes out₀ out p q k o c enough l (low two first two.one) (low two second two.other) r same_size back
-              (rw (lower_is p q) h) s t (x ∙ rw (u, v, front_is first p, front_is second q) refl) (y ∙ rw (u, v, front_is first p, front_is second q) refl)
+              (rw (lower_is p q) h) s t (x ∙ rw (u, v, front_is first p, front_is second q, count_one) refl) (y ∙ rw (u, v, front_is first p, front_is second q, count_one) refl)
 
 -- the rows that are behind stay small
 module _ (f : Form) (first second : List ℕ) (two : Two f first second) (nodes : ℕ) (out₀ out : List ℕ) (p q k o : ℕ) (c : NodeMerge f first second nodes out₀ out p q k o)
-    (t : Bool) (s : ℕ) (e : s ≡ cond t 1 0) where
-  one_more : (u : Bool) → cond u 1 0 ≤ 1
-  one_more true = omega arith
-  one_more false = omega arith
-
+    (t : Bool) (s : ℕ) (e : s ≡ bool_byte t) where
   pub first_sum : Fits w64 (p + s)
   first_sum =
       let few = two.one.room.few in
       let most = two.one.room.usable.few in
       let within = c.one_within in
-      omega (arith, one_more t)
+      omega (arith, count_most t)
 
   pub second_sum : Fits w64 (q + s)
   second_sum =
       let few = two.other.room.few in
       let most = two.other.room.usable.few in
       let within = c.other_within in
-      omega (arith, one_more t)
+      omega (arith, count_most t)
 
 pub ruleset node_lower = (node_at, lower_first, lower_second, level_first, level_second, next_first, next_second, next_both, box_size, box_laid)
 

@@ -3,11 +3,12 @@ ghost use Rattle.std.specs.Prelude.{◌≡◌, ◌+◌, ◌≤◌, length};
 ghost use Rattle.lists.specs.Laid.{over};
 ghost use Rattle.layout.specs.Layout.{edge_count};
 ghost use Rattle.records.specs.Checked.{CheckedNetwork};
-ghost use Rattle.merging.specs.Merged.{edges_merged, Two};
+ghost use Rattle.merging.specs.Merged.{edges_merged};
 ghost use Rattle.merging.specs.Runs.{run_below, run_bytes, gone_first, gone_second, turn_bytes, KeysApart};
 
 use crate::front::front_key;
 use layout::{EDGE_WIDTH, EDGES_FIELD, Form, edge_offset};
+use matching::Pair;
 use numbers::{put_part, stride, u16_at, u32_at};
 
 // How many edges from row p on have a key below a limit.
@@ -15,17 +16,15 @@ fn run_below(form: Form, b: &[u8], p: usize, limit: usize) -> usize
     requires { CheckedNetwork form b.now × (p ≤ edge_count b.now) }
     ensures { result ≡ run_below form b.now p limit }
 {
-    let n = u16_at(b, EDGES_FIELD) as usize - p;
-    let mut k = 0;
+    let n = usize::from(u16_at(b, EDGES_FIELD)) - p;
     let mut at = edge_offset(form, b, p);
-    while k < n {
+    for k in 0..n {
         if limit <= u32_at(b, at) as usize {
             return k;
         }
         at += EDGE_WIDTH;
-        k += 1;
     }
-    k
+    n
 }
 
 // The k edges from row p on, as they stand. Answers how many bytes they are.
@@ -48,12 +47,18 @@ struct Gone {
 }
 
 // One turn, from rows p and q on: the edges of the first network below the second's front, and then the other way round.
-fn lay_turn(form: Form, first: &[u8], p: usize, second: &[u8], q: usize, out: &mut [u8]) -> Gone
-    requires two { Two form first.now second.now × (p ≤ edge_count first.now) × (q ≤ edge_count second.now) }
-    requires room { length (turn_bytes form first.now second.now p q) ≤ length out.old }
-    ensures gone { (result.first ≡ gone_first form first.now second.now p q) × (result.second ≡ gone_second form first.now second.now p q) }
-    ensures laid { out.new ≡ over (turn_bytes form first.now second.now p q) out.old }
+fn lay_turn(pair: Pair, p: usize, q: usize, out: &mut [u8]) -> Gone
+    requires within { (p ≤ edge_count pair.first.now) × (q ≤ edge_count pair.second.now) }
+    requires room { length (turn_bytes pair.form pair.first.now pair.second.now p q) ≤ length out.old }
+    ensures first { let t = pair.entry in result.first ≡ gone_first t.form t.first.now t.second.now p q }
+    ensures second { let t = pair.entry in result.second ≡ gone_second t.form t.first.now t.second.now p q }
+    ensures laid { let t = pair.entry in out.new ≡ over (turn_bytes t.form t.first.now t.second.now p q) out.old }
 {
+    let Pair {
+        form,
+        first,
+        second,
+    } = pair;
     let a = run_below(form, first, p, front_key(form, second, q));
     let size = put_run(form, first, p, a, out);
     let b = run_below(form, second, q, front_key(form, first, p + a));
@@ -65,16 +70,17 @@ fn lay_turn(form: Form, first: &[u8], p: usize, second: &[u8], q: usize, out: &m
 }
 
 // The edges of both, of which there are so many and no two have one key.
-pub fn merge_edges(form: Form, first: &[u8], second: &[u8], edges: usize, out: &mut [u8])
-    requires two { Two form first.now second.now × KeysApart form first.now second.now × (edges ≡ edge_count first.now + edge_count second.now) }
-    requires room { length (edges_merged form first.now second.now) ≤ length out.old }
-    ensures { out.new ≡ over (edges_merged form first.now second.now) out.old }
+pub fn merge_edges(pair: Pair, edges: usize, out: &mut [u8])
+    requires apart { KeysApart pair.form pair.first.now pair.second.now }
+    requires counted { edges ≡ edge_count pair.first.now + edge_count pair.second.now }
+    requires room { length (edges_merged pair.form pair.first.now pair.second.now) ≤ length out.old }
+    ensures { let t = pair.entry in out.new ≡ over (edges_merged t.form t.first.now t.second.now) out.old }
 {
     let mut p = 0;
     let mut q = 0;
     let mut o = 0;
     while p + q < edges {
-        let gone = lay_turn(form, first, p, second, q, &mut out[o..]);
+        let gone = lay_turn(pair, p, q, &mut out[o..]);
         p += gone.first;
         q += gone.second;
         o += stride(0, EDGE_WIDTH, gone.first + gone.second);

@@ -24,6 +24,7 @@ use Rattle.records.specs.Network.{network_table, network_refusal}
 use Rattle.reading.specs.Largest.{largest_network}
 use Rattle.reading.specs.Whole.{HouseNetwork, write_network}
 use Rattle.lines.specs.Line.{line_bytes, longest_line}
+use Rattle.lines.specs.declared.Line.{Line}
 use Rattle.lines.specs.declared.Line.TheVariants.{Refused as Line-as-Refused}
 use Rattle.lines.proofs.Lengths.{refused_length}
 use Rattle.outcomes.specs.Outcomes.{outcome_of}
@@ -50,14 +51,17 @@ module _ (a : Result ℕ Refusal) (out : List ℕ) where
       unfolding outcome_placed
       room_placed = rw (e, ← number, eq-eqb m 20 t)
 
-    module _ (t : m ≡ 20 → ⊥) (wide : ℕ) (w : wide ≡ m) where
-      pub refused_count : (c : ℕ) → c ≡ length (line_bytes (Line-as-Refused wide r.place)) → c ≡ outcome_length (outcome_of a)
-      unfolding outcome_length line_bytes
-      refused_count c h = rw (e, ← number, ne_eqb m 20 t, ← w) h
+    module _ (t : m ≡ 20 → ⊥) (line : Line) (l : line ≡ Line-as-Refused (number_of r.class) r.place) where
+      other : eqb (number_of r.class) 20 ≡ false
+      other = rw (← number) (ne_eqb m 20 t)
 
-      pub refused_placed : (end : List ℕ) → end ≡ placed (line_bytes (Line-as-Refused wide r.place)) out → end ≡ outcome_placed (outcome_of a) out
+      pub refused_count : (c : ℕ) → c ≡ length (line_bytes line) → c ≡ outcome_length (outcome_of a)
+      unfolding outcome_length line_bytes
+      refused_count c h = rw (e, other) (rw l at h)
+
+      pub refused_placed : (end : List ℕ) → end ≡ placed (line_bytes line) out → end ≡ outcome_placed (outcome_of a) out
       unfolding outcome_placed line_bytes
-      refused_placed end h = rw (e, ← number, ne_eqb m 20 t, ← w) h
+      refused_placed end h = rw (e, other) (rw l at h)
 
 pub ruleset outcome_lines = (done_count, done_placed, room_count, room_placed, refused_count, refused_placed)
 

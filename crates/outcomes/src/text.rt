@@ -3,7 +3,7 @@ ghost use Rattle.std.specs.Prelude.{◌≡◌};
 ghost use Rattle.outcomes.specs.Outcomes.{outcome_of};
 ghost use Rattle.outcomes.specs.Text.{outcome_length, outcome_placed};
 
-use layout::{Refusal, number_of};
+use layout::Refusal;
 use lines::{Line, place_line};
 
 // Places the line of a refusal at the start of out where it fits, and answers its length. A record that is there, and one that had no
@@ -14,13 +14,9 @@ pub fn place_outcome(outcome: Result<usize, Refusal>, out: &mut [u8]) -> usize
 {
     match outcome {
         Ok(length) => length,
-        Err(refusal) => {
-            let class = refusal.class;
-            let place = refusal.place;
-            match number_of(class) {
-                20 => place,
-                number => place_line(Line::Refused(usize::from(number), place), out),
-            }
-        }
+        Err(refusal) => match u8::from(refusal.class) {
+            20 => refusal.place,
+            _ => place_line(Line::from(refusal), out),
+        },
     }
 }

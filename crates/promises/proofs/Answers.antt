@@ -3,6 +3,7 @@
 --     passed_said, said, verdict_is     the judge, from its verdict to the definitions' answer and back
 --     cut_said_lem, leaves_buffer, kept_said     the cutter, likewise, and its buffer
 --     out_said, out_bytes, twice_said   the record that a cut leaves, and one cut upon another's
+use Rattle.std.proofs.Common.{Err, Ok, Result}
 use mathlib.Core.Path.{◌≡◌, refl, sym, ap, ap₂, ◌∙◌}
 use mathlib.Core.List.{List}
 use mathlib.Core.Logic.{◌↔◌, ◌⊎◌, inl, inr, ⊎_elim}
@@ -30,8 +31,6 @@ use Rattle.judging.specs.declared.Verdict.TheVariants as verdict
 use Rattle.judging.proofs.Answers.{one_verdict}
 use Rattle.outcomes.specs.Outcomes.{outcome_of}
 use Rattle.cutting.specs.Cutting.{cut_records, cut_buffer}
-use Rattle.outcomes.specs.declared.Outcome.{Outcome}
-use Rattle.outcomes.specs.declared.Outcome.TheVariants as outcome
 use Rattle.outcomes.proofs.Outcomes.{one_outcome}
 use Rattle.cutting.proofs.OnBytes.{record_small}
 use Rattle.promises.specs.Answers.{Passed, cut_out, cut_out_twice}
@@ -150,7 +149,7 @@ module _ (s : Suite) where
   pub cuts_alike : (network sheet : List ℕ) → CutsAlike s network sheet
   cuts_alike network sheet small sheet_small = (to, from)
     where
-      to : ((k : ℕ) (out : List ℕ) (r : Refusal) → k < 256 → Bytes out → s.cut network sheet k out ≡ outcome.Refused r
+      to : ((k : ℕ) (out : List ℕ) (r : Refusal) → k < 256 → Bytes out → s.cut network sheet k out ≡ Err r
           → (r.class ≡ NoSuchOwn) ⊎ (r.class ≡ NoRoom)) → SheetCuts network sheet
       to h k room n place asked e = go (s.cut network sheet k (replicate room 0)) refl
         where
@@ -158,13 +157,13 @@ module _ (s : Suite) where
           same = cut_said_lem s network sheet k (replicate room 0) small sheet_small asked (zero_bytes room)
               ∙ ap (cut_records network sheet k) (length-replicate room 0) ∙ e
 
-          go : (c : Outcome) → s.cut network sheet k (replicate room 0) ≡ c → (n ≡ 18) ⊎ (n ≡ 20)
-          go (outcome.Done m) q = absurd (refused_given (sym same ∙ ap outcome_of q))
-          go (outcome.Refused r) q =
+          go : (c : Result ℕ Refusal) → s.cut network sheet k (replicate room 0) ≡ c → (n ≡ 18) ⊎ (n ≡ 20)
+          go (Ok m) q = absurd (refused_given (sym same ∙ ap outcome_of q))
+          go (Err r) q =
               let z : n ≡ number_of r.class = refused_number (sym same ∙ ap outcome_of q) in
               ⊎_elim (λ c. inl (z ∙ ap number_of c)) (λ c. inr (z ∙ ap number_of c)) (h k (replicate room 0) r asked (zero_bytes room) q)
 
-      from : SheetCuts network sheet → (k : ℕ) (out : List ℕ) (r : Refusal) → k < 256 → Bytes out → s.cut network sheet k out ≡ outcome.Refused r
+      from : SheetCuts network sheet → (k : ℕ) (out : List ℕ) (r : Refusal) → k < 256 → Bytes out → s.cut network sheet k out ≡ Err r
           → (r.class ≡ NoSuchOwn) ⊎ (r.class ≡ NoRoom)
       from h k out r asked out_small e =
           ⊎_elim (λ q. inl (class_is r.class NoSuchOwn q)) (λ q. inr (class_is r.class NoRoom q))
@@ -221,7 +220,7 @@ module _ (s : Suite) where
             ∙ e.0 ∙ sym once,
         twice_said network Y X (number (sheet_of Y) w) (number (sheet_of X) w) o₁ o₂ r.bytes.0 r.bytes.2 r.bytes.1 y x small₁ small₂
             ∙ e.1 ∙ sym once,
-        (n.0, one_outcome (given n.0) (s.cut network Z (number (sheet_of Z) w) o₃) (outcome.Done n.0) n.1 refl),
+        (n.0, one_outcome (given n.0) (s.cut network Z (number (sheet_of Z) w) o₃) (Ok n.0) n.1 refl),
       )
 
   pub apart_returns : (network X Y Z : List ℕ) → ApartReturns s network X Y Z

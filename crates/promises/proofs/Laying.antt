@@ -3,6 +3,7 @@
 --     lays, keeps            an outcome and a buffer that are as asked
 --     laying_given           what was given
 --     leaves_laid            what is left in the buffer, by the two cases
+use Rattle.std.proofs.Common.{Err, Ok, Result}
 use mathlib.Core.Path.{◌≡◌, refl, sym, ap, ◌∙◌}
 use mathlib.Core.Bool.{Bool, true, false, cond}
 use mathlib.Core.List.{List, [], ◌∷◌, ◌++◌}
@@ -16,8 +17,6 @@ use Rattle.lists.proofs.Answer.{given_same, refused_given, first_append, refusin
 use Rattle.layout.specs.declared.Class.TheVariants.{NoRoom}
 use Rattle.layout.specs.declared.Refusal.{Refusal}
 use Rattle.outcomes.specs.Outcomes.{outcome_of}
-use Rattle.outcomes.specs.declared.Outcome.{Outcome}
-use Rattle.outcomes.specs.declared.Outcome.TheVariants as outcome
 use Rattle.outcomes.proofs.Outcomes.{one_outcome}
 use Rattle.promises.specs.Suite.{laying, leaving}
 
@@ -30,19 +29,19 @@ module _ (rows : List (Bool × Answer ℕ)) (W out : List ℕ) where
   room_decides : NoneApplies rows → laying rows W out ≡ cond (ltb (length out) (length W)) (refused 20 (length W)) (given (length W))
   room_decides h = first_append rows last (given (length W)) ∙ none_first rows (first_applying last (given (length W))) h
 
-  module _ (c : Outcome) (buffer : List ℕ) (answers : outcome_of c ≡ laying rows W out) (leaves : buffer ≡ leaving W out (laying rows W out)) where
-    answered : (d : Outcome) → laying rows W out ≡ outcome_of d → (c ≡ d) × (buffer ≡ leaving W out (outcome_of d))
+  module _ (c : Result ℕ Refusal) (buffer : List ℕ) (answers : outcome_of c ≡ laying rows W out) (leaves : buffer ≡ leaving W out (laying rows W out)) where
+    answered : (d : Result ℕ Refusal) → laying rows W out ≡ outcome_of d → (c ≡ d) × (buffer ≡ leaving W out (outcome_of d))
     answered d e = (one_outcome _ c d answers (sym e), leaves ∙ ap (leaving W out) e)
 
     pub lays : NoneApplies rows
-        → (length W ≤ length out → (c ≡ outcome.Done (length W)) × (buffer ≡ W ++ drop (length W) out))
-        × (length out < length W → (c ≡ outcome.Refused (record { class = NoRoom; place = length W })) × (buffer ≡ out))
+        → (length W ≤ length out → (c ≡ Ok (length W)) × (buffer ≡ W ++ drop (length W) out))
+        × (length out < length W → (c ≡ Err (record { class = NoRoom; place = length W })) × (buffer ≡ out))
     lays h = (
-      λ room. answered (outcome.Done (length W)) (room_decides h ∙ rw (le-ltb (length out) (length W) room) refl),
-      λ short. answered (outcome.Refused (record { class = NoRoom; place = length W })) (room_decides h ∙ rw (lt-ltb (length out) (length W) short) refl),
+      λ room. answered (Ok (length W)) (room_decides h ∙ rw (le-ltb (length out) (length W) room) refl),
+      λ short. answered (Err (record { class = NoRoom; place = length W })) (room_decides h ∙ rw (lt-ltb (length out) (length W) short) refl),
     )
 
-    pub keeps : (r : Refusal) → c ≡ outcome.Refused r → buffer ≡ out
+    pub keeps : (r : Refusal) → c ≡ Err r → buffer ≡ out
     keeps r e = leaves ∙ ap (leaving W out) (sym answers ∙ ap outcome_of e)
 
   laying_given : refusing rows ≡ true → (n : ℕ) → laying rows W out ≡ given n → NoneApplies rows × (length W ≤ length out) × (length W ≡ n)

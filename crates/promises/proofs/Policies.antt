@@ -1,4 +1,6 @@
 -- Every policy adds at least 1, proved: one that adds 0 is ill formed, and the first that is ill formed gives the place.
+use Rattle.layout.specs.declared.Refusal.{Refusal}
+use Rattle.std.proofs.Common.{Err, Ok}
 use mathlib.Core.Path.{◌≡◌, refl, sym, ◌∙◌}
 use mathlib.Core.Bool.{false}
 use mathlib.Core.List.{List}
@@ -20,7 +22,6 @@ use Rattle.reading.proofs.Adding.{fine_adds, wire_dearer}
 use Rattle.judging.specs.Judging.{judge_records}
 use Rattle.judging.specs.declared.Verdict.TheVariants as verdict
 use Rattle.cutting.specs.Cutting.{cut_network, cut_records}
-use Rattle.outcomes.specs.declared.Outcome.TheVariants as outcome
 use Rattle.outcomes.proofs.Outcomes.{one_outcome}
 use Rattle.promises.specs.Policies.{ill_policy, Framed, added_by, ZeroRefused, PoliciesAdd, WiresCost, ReturnsIllPolicy}
 use Rattle.promises.specs.Suite.{Suite}
@@ -71,7 +72,7 @@ module _ (network : List ℕ) where
         z.2,
         λ list list_small. verdict_is s network list small list_small (verdict.Refused refusal) (z.4 list),
         λ sheet k out sheet_small asked out_small.
-            let c : s.cut network sheet k out ≡ outcome.Refused refusal =
-            one_outcome _ (s.cut network sheet k out) (outcome.Refused refusal) (cut_said_lem s network sheet k out small sheet_small asked out_small) (sym (z.5 sheet k (length out))) in
+            let c : s.cut network sheet k out ≡ Err refusal =
+            one_outcome _ (s.cut network sheet k out) (Err refusal) (cut_said_lem s network sheet k out small sheet_small asked out_small) (sym (z.5 sheet k (length out))) in
             (c, keeps_buffer s network sheet k out small sheet_small asked out_small refusal c),
       )

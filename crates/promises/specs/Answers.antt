@@ -4,7 +4,7 @@
 --     ReturnsPass .. LaysFragment      demand 2
 --     CutsAlike .. ApartReturns        demand 3
 --     SameVerdict, SameRecord          lists and sheets that agree
-use Rattle.std.specs.Prelude.{◌≡◌, true, List, ◌++◌, ◌↔◌, ◌⊎◌, ℕ, ◌≤◌, ◌<◌, length, take, drop}
+use Rattle.std.specs.Prelude.{◌≡◌, true, List, ◌++◌, ◌↔◌, ◌⊎◌, ℕ, ◌≤◌, ◌<◌, length, take, drop, Err, Ok, Result}
 use Rattle.std.proofs.Math.Option.{none, some}
 use Rattle.lists.specs.All.{All}
 use Rattle.lists.specs.Answer.{Answer, given, refused, and_then, NoneApplies}
@@ -27,8 +27,6 @@ use Rattle.judging.specs.Answers as judging
 use Rattle.judging.specs.declared.Verdict.{Verdict}
 use Rattle.judging.specs.declared.Verdict.TheVariants as verdict
 use Rattle.outcomes.specs.Outcomes.{outcome_of}
-use Rattle.outcomes.specs.declared.Outcome.{Outcome}
-use Rattle.outcomes.specs.declared.Outcome.TheVariants as outcome
 use Rattle.promises.specs.Calls.{house1, Roomy, SheetCuts}
 use Rattle.promises.specs.Demand1.{cutting_table, fragment_record}
 use Rattle.promises.specs.Demand3.{Refined, apart_place}
@@ -85,23 +83,23 @@ module _ (s : Suite) where
       abbrev F : List ℕ
       F = fragment_record network sheet k
 
-      abbrev c : Outcome
+      abbrev c : Result ℕ Refusal
       c = s.cut network sheet k out
 
       -- Demand 1: a refusal leaves the buffer as it was.
       abbrev pub KeepsBuffer : Type 0
-      KeepsBuffer = Bytes network → Bytes sheet → k < 256 → Bytes out → (r : Refusal) → c ≡ outcome.Refused r → s.after network sheet k out ≡ out
+      KeepsBuffer = Bytes network → Bytes sheet → k < 256 → Bytes out → (r : Refusal) → c ≡ Err r → s.after network sheet k out ≡ out
 
       -- Demand 2: where none of 1 to 19 applies, a buffer with room gets the fragment's record, with the bytes behind it as they were, and
       -- the answer is its length. A shorter one stays as it was, and the answer is the length needed.
       abbrev pub LaysFragment : Type 0
       LaysFragment = Bytes network → Bytes sheet → k < 256 → Bytes out → NoneApplies (cutting_table network sheet k {A = ℕ})
-          → (length F ≤ length out → (c ≡ outcome.Done (length F)) × (s.after network sheet k out ≡ F ++ drop (length F) out))
-          × (length out < length F → (c ≡ outcome.Refused (record { class = NoRoom; place = length F })) × (s.after network sheet k out ≡ out))
+          → (length F ≤ length out → (c ≡ Ok (length F)) × (s.after network sheet k out ≡ F ++ drop (length F) out))
+          × (length out < length F → (c ≡ Err (record { class = NoRoom; place = length F })) × (s.after network sheet k out ≡ out))
 
     -- A sheet cuts a network where the cutter refuses by it for want of the fragment or of room alone.
     abbrev pub CutsAlike : Type 0
-    CutsAlike = Bytes network → Bytes sheet → ((k : ℕ) (out : List ℕ) (r : Refusal) → k < 256 → Bytes out → s.cut network sheet k out ≡ outcome.Refused r
+    CutsAlike = Bytes network → Bytes sheet → ((k : ℕ) (out : List ℕ) (r : Refusal) → k < 256 → Bytes out → s.cut network sheet k out ≡ Err r
         → (r.class ≡ NoSuchOwn) ⊎ (r.class ≡ NoRoom)) ↔ SheetCuts network sheet
 
     -- Demand 3, fragments and whole: the list passes in every fragment that the cutter gives exactly where it passes in the whole and has the
@@ -119,7 +117,7 @@ module _ (s : Suite) where
         → (o₁ o₂ o₃ : List ℕ) → Bytes o₁ → Bytes o₂ → Bytes o₃ → Roomy (form_of network) o₁ → Roomy (form_of network) o₂ → Roomy (form_of network) o₃
         → (cut_out_twice network X (number (sheet_of X) w) o₁ Y (number (sheet_of Y) w) o₂ ≡ cut_out network Z (number (sheet_of Z) w) o₃)
         × (cut_out_twice network Y (number (sheet_of Y) w) o₁ X (number (sheet_of X) w) o₂ ≡ cut_out network Z (number (sheet_of Z) w) o₃)
-        × ((n : ℕ) × (s.cut network Z (number (sheet_of Z) w) o₃ ≡ outcome.Done n))
+        × ((n : ℕ) × (s.cut network Z (number (sheet_of Z) w) o₃ ≡ Ok n))
 
     -- Where no own box is in both fragments, both orders are refused with 18.
     abbrev pub ApartReturns : Type 0

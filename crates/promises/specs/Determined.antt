@@ -1,9 +1,9 @@
 -- Determination: any two results that a contract allows for the same arguments are equal, and so is what they leave in a lent buffer.
 -- A contract is taken as Rattle makes it of the function's `ensures`: `Post` of its `Reads` says of the arguments a, a result r and the
 -- arguments at exit e whether the contract allows r and e. Of a reference `now` is what stands behind it.
-use Rattle.std.specs.Prelude.{◌≡◌, List, ℕ}
+use Rattle.layout.specs.declared.Refusal.{Refusal}
+use Rattle.std.specs.Prelude.{◌≡◌, List, ℕ, Result}
 use contract.Lifetimes.{Lfts}
-use Rattle.outcomes.specs.declared.Outcome.{Outcome}
 use Rattle.judging.proofs.judge.Reads as the_judge
 use Rattle.judging.proofs.judge_bytes.Reads as the_judge_bytes
 use Rattle.judging.proofs.neighbour.Reads as the_neighbour
@@ -34,8 +34,8 @@ One {A} {R} {E} Post seen = (a : A) (r r' : R) (e e' : E) → Post a r e → Pos
 pub record Determined : Type 0 where
   pub judge : (κs : Lfts 1) → One (the_judge.Post κs) (λ r e. r)
   pub neighbour : (κs : Lfts 1) → One (the_neighbour.Post κs) (λ r e. r.now)
-  pub cut : (κs : Lfts 3) → One {B = Outcome × List ℕ} (the_cut.Post κs) (λ r e. (r, e.1.1.1.0.now))
-  pub join : (κs : Lfts 3) → One {B = Outcome × List ℕ} (the_join.Post κs) (λ r e. (r, e.1.1.0.now))
+  pub cut : (κs : Lfts 3) → One {B = Result ℕ Refusal × List ℕ} (the_cut.Post κs) (λ r e. (r, e.1.1.1.0.now))
+  pub join : (κs : Lfts 3) → One {B = Result ℕ Refusal × List ℕ} (the_join.Post κs) (λ r e. (r, e.1.1.0.now))
   pub judge_bytes : (κs : Lfts 2) → One {B = ℕ × List ℕ} (the_judge_bytes.Post κs) (λ r e. (r, e.1.0.now))
   pub cut_bytes : (κs : Lfts 2) → One {B = ℕ × List ℕ} (the_cut_bytes.Post κs) (λ r e. (r, e.1.0.now))
   pub join_bytes : (κs : Lfts 2) → One {B = ℕ × List ℕ} (the_join_bytes.Post κs) (λ r e. (r, e.1.0.now))

@@ -3,7 +3,7 @@
 --     KeepsJoin, LaysJoint             demand 1, and the record in the buffer
 --     RejoinsParts, GivesBack          demand 3, the fragments of one cut
 --     JoinsEitherWay, JoinedVerdict    either order; a list passes exactly where it passes in both
-use Rattle.std.specs.Prelude.{◌≡◌, List, ◌++◌, ◌↔◌, ℕ, ◌≤◌, ◌<◌, length, take, drop}
+use Rattle.std.specs.Prelude.{◌≡◌, List, ◌++◌, ◌↔◌, ℕ, ◌≤◌, ◌<◌, length, take, drop, Err, Ok, Result}
 use Rattle.lists.specs.Answer.{Answer, given, and_then, NoneApplies}
 use Rattle.lists.specs.Bytes.{Bytes}
 use Rattle.networks.specs.Reunion.{Plan, part, both}
@@ -12,8 +12,6 @@ use Rattle.layout.specs.declared.Class.TheVariants.{NoRoom}
 use Rattle.layout.specs.declared.Refusal.{Refusal}
 use Rattle.records.specs.Network.{SoundRecord}
 use Rattle.outcomes.specs.Outcomes.{outcome_of}
-use Rattle.outcomes.specs.declared.Outcome.{Outcome}
-use Rattle.outcomes.specs.declared.Outcome.TheVariants as outcome
 use Rattle.promises.specs.Answers.{Passed, cut_out}
 use Rattle.promises.specs.Calls.{Roomy, SheetCuts}
 use Rattle.promises.specs.Demand1.{joining_table, joint_record}
@@ -41,19 +39,19 @@ module _ (s : Suite) where
     F = joint_record first second
 
     module _ (out : List ℕ) where
-      abbrev c : Outcome
+      abbrev c : Result ℕ Refusal
       c = s.join first second out
 
       -- Demand 1: a refusal leaves the buffer as it was.
       abbrev pub KeepsJoin : Type 0
-      KeepsJoin = Bytes first → Bytes second → Bytes out → (r : Refusal) → c ≡ outcome.Refused r → s.after_join first second out ≡ out
+      KeepsJoin = Bytes first → Bytes second → Bytes out → (r : Refusal) → c ≡ Err r → s.after_join first second out ≡ out
 
       -- Where none of the refusals up to 24 applies, a buffer with room gets the joint network's record, with the bytes behind it as they were,
       -- and the answer is its length. A shorter one stays as it was, and the answer is the length needed.
       abbrev pub LaysJoint : Type 0
       LaysJoint = Bytes first → Bytes second → Bytes out → NoneApplies (joining_table first second {A = ℕ})
-          → (length F ≤ length out → (c ≡ outcome.Done (length F)) × (s.after_join first second out ≡ F ++ drop (length F) out))
-          × (length out < length F → (c ≡ outcome.Refused (record { class = NoRoom; place = length F })) × (s.after_join first second out ≡ out))
+          → (length F ≤ length out → (c ≡ Ok (length F)) × (s.after_join first second out ≡ F ++ drop (length F) out))
+          × (length out < length F → (c ≡ Err (record { class = NoRoom; place = length F })) × (s.after_join first second out ≡ out))
 
       -- Two sound records may stand in either order, with the same answer and the same bytes in the buffer.
       abbrev pub JoinsEitherWay : Type 0

@@ -3,7 +3,7 @@
 --     Framed, added_by, FirstIll           none of 1 to 5 applies; what a policy adds; the first ill-formed one
 --     ZeroRefused, ReturnsIllPolicy       a policy that adds 0 is refused, used or not: by the definitions, and by what a suite returns
 --     PoliciesAdd, WiresCost              what is left of a sound network
-use Rattle.std.specs.Prelude.{◌≡◌, true, false, List, ℕ, ◌≤◌, ◌<◌, take}
+use Rattle.std.specs.Prelude.{◌≡◌, true, false, List, ℕ, ◌≤◌, ◌<◌, take, Err, Ok}
 use Rattle.lists.specs.Answer.{refused, NoneApplies}
 use Rattle.lists.specs.Bytes.{Bytes}
 use Rattle.routes.specs.Form.{policy_at}
@@ -24,7 +24,6 @@ use Rattle.reading.specs.Whole.{network_of}
 use Rattle.judging.specs.Judging.{judge_records}
 use Rattle.judging.specs.declared.Verdict.TheVariants as verdict
 use Rattle.cutting.specs.Cutting.{cut_records}
-use Rattle.outcomes.specs.declared.Outcome.TheVariants as outcome
 use Rattle.promises.specs.Suite.{Suite}
 
 -- the refusal of the j-th policy
@@ -67,4 +66,4 @@ module _ (network : List ℕ) where
       → (j : ℕ) × (j ≤ i) × FirstIll j
       × ((list : List ℕ) → Bytes list → s.judge network list ≡ verdict.Refused (ill_policy j))
       × ((sheet : List ℕ) (k : ℕ) (out : List ℕ) → Bytes sheet → k < 256 → Bytes out
-      → (s.cut network sheet k out ≡ outcome.Refused (ill_policy j)) × (s.after network sheet k out ≡ out))
+      → (s.cut network sheet k out ≡ Err (ill_policy j)) × (s.after network sheet k out ≡ out))

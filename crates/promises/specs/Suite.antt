@@ -4,7 +4,8 @@
 --     cut_answer, cut_leaves            so the cutter
 --     join_answer, join_leaves          so the joiner
 --     Suite                           functions on bytes that do so; proofs/Contracts.antt shows that the code's contracts ask just this
-use Rattle.std.specs.Prelude.{◌≡◌, Bool, List, [], ◌∷◌, ◌++◌, ℕ, ◌<◌, ltb, length, drop}
+use Rattle.layout.specs.declared.Refusal.{Refusal}
+use Rattle.std.specs.Prelude.{◌≡◌, Bool, List, [], ◌∷◌, ◌++◌, ℕ, ◌<◌, ltb, length, drop, Result}
 use Rattle.lists.specs.Answer.{Answer, given, refused}
 use Rattle.lists.specs.Bytes.{Bytes}
 use Rattle.lists.specs.Test.{first_applying}
@@ -15,7 +16,6 @@ use Rattle.reading.specs.Whole.{network_of, list_of}
 use Rattle.judging.specs.Answers as judging
 use Rattle.judging.specs.declared.Verdict.{Verdict}
 use Rattle.outcomes.specs.Outcomes.{outcome_of}
-use Rattle.outcomes.specs.declared.Outcome.{Outcome}
 use Rattle.promises.specs.Calls.{house1}
 use Rattle.promises.specs.Demand1.{judging_table, cutting_table, joining_table, fragment_record, joint_record}
 
@@ -61,8 +61,8 @@ module _ (first second out : List ℕ) where
 -- A slice is bytes, and a fragment is asked by a byte. An enum's case is read by the definition that gives its number and values.
 pub record Suite : Type 0 where
   pub judge : List ℕ → List ℕ → Verdict
-  pub cut : List ℕ → List ℕ → ℕ → List ℕ → Outcome
-  pub join : List ℕ → List ℕ → List ℕ → Outcome
+  pub cut : List ℕ → List ℕ → ℕ → List ℕ → Result ℕ Refusal
+  pub join : List ℕ → List ℕ → List ℕ → Result ℕ Refusal
   -- what the lent buffer holds at exit
   pub after : List ℕ → List ℕ → ℕ → List ℕ → List ℕ
   pub after_join : List ℕ → List ℕ → List ℕ → List ℕ

@@ -12,11 +12,10 @@ use counting::census_bytes;
 use cutting::{cut, cut_bytes};
 use joining::{LONGEST, join, join_bytes};
 use judging::judge_bytes;
-use layout::number_of;
+use layout::Refusal;
 use lines::{Line, place_line};
-use numbers::{put_u32, u16_at, u32_at, wide, wide16};
-use outcomes::Outcome;
-use streams::{Input, read_input, write_output};
+use numbers::{u16_at, u32_at};
+use streams::{read_input, write_output};
 use tracing::trail_bytes;
 
 // The most bytes of an input and of an answer: those of the longest input of all, which is the join's, with a byte more, and of the two
@@ -24,13 +23,10 @@ use tracing::trail_bytes;
 const ROOM: usize = LONGEST + 5;
 
 // How long the record is that stands at the start of out; or the line that refuses it is put there, number 20 too.
-fn record_or_line(outcome: Outcome, out: &mut [u8]) -> usize {
+fn record_or_line(outcome: Result<usize, Refusal>, out: &mut [u8]) -> usize {
     match outcome {
-        Outcome::Done(length) => length,
-        Outcome::Refused(refusal) => {
-            let class = refusal.class;
-            place_line(Line::Refused(wide(number_of(class)), refusal.place), out)
-        }
+        Ok(length) => length,
+        Err(refusal) => place_line(Line::from(refusal), out),
     }
 }
 
@@ -47,11 +43,8 @@ fn network_end(input: &[u8]) -> usize
     requires { 4 ≤ length input.now }
     ensures { (4 ≤ result) × (result ≤ length input.now) }
 {
-    let end = 4 + wide16(u16_at(input, 2));
-    if input.len() < end {
-        return input.len();
-    }
-    end
+    let end = 4 + usize::from(u16_at(input, 2));
+    end.min(input.len())
 }
 
 // Cuts into a lent buffer: the input is the length of the buffer and the length of the network, two bytes each, and then what
@@ -62,7 +55,7 @@ fn cut_lent(input: &[u8], out: &mut [u8]) -> usize
     if input.len() < 4 {
         return 0;
     }
-    let room = wide16(u16_at(input, 0));
+    let room = usize::from(u16_at(input, 0));
     let end = network_end(input);
     if end == input.len() {
         return cut_within(&input[4..end], &input[end..], 0, out, room);
@@ -79,7 +72,7 @@ fn join_lent(input: &[u8], out: &mut [u8]) -> usize
     if input.len() < 4 {
         return 0;
     }
-    let room = wide16(u16_at(input, 0));
+    let room = usize::from(u16_at(input, 0));
     let end = network_end(input);
     let outcome = join(&input[4..end], &input[end..], &mut out[0..room]);
     record_or_line(outcome, out)
@@ -98,7 +91,7 @@ fn answer(call: u8, input: &[u8], out: &mut [u8]) -> usize
         4 => trail_bytes(input, out),
         5 => join_bytes(input, out),
         6 => join_lent(input, out),
-        _ => place_line(Line::Refused(0, wide(call)), out),
+        _ => place_line(Line::Refused(0, usize::from(call)), out),
     }
 }
 
@@ -109,28 +102,20 @@ fn write_answer(rt: &HostRuntime, call: u8, input: &[u8]) -> bool {
     if ROOM < length {
         return false;
     }
-    let mut head = [0u8; 4];
-    put_u32(&mut head, 0, length as u32);
-    if !write_output(
-        rt,
-        &head,
-        b"replay: the length of an answer could not be written\n",
-    ) {
+    let head = (length as u32).to_be_bytes();
+    let unwritten = b"replay: the length of an answer could not be written\n";
+    if write_output(rt, &head, unwritten).is_err() {
         return false;
     }
-    write_output(
-        rt,
-        &out[0..length],
-        b"replay: an answer could not be written\n",
-    )
+    let unwritten = b"replay: an answer could not be written\n";
+    write_output(rt, &out[0..length], unwritten).is_ok()
 }
 
 // Reads the input of a case to the end of room and writes the answer. Answers whether that was done: a case that is cut short
 // has no answer.
 fn answer_input(rt: &HostRuntime, call: u8, room: &mut [u8]) -> bool {
     let length = room.len();
-    let Input::Read(got) = read_input(rt, room, b"replay: the input of a case could not be read\n")
-    else {
+    let Ok(got) = read_input(rt, room, b"replay: the input of a case could not be read\n") else {
         return false;
     };
     if got < length {
@@ -142,7 +127,7 @@ fn answer_input(rt: &HostRuntime, call: u8, room: &mut [u8]) -> bool {
 // Reads a case and writes its answer. Answers whether there was one.
 fn answer_next(rt: &HostRuntime) -> bool {
     let mut head = [0u8; 5];
-    let Input::Read(got) = read_input(
+    let Ok(got) = read_input(
         rt,
         &mut head,
         b"replay: the head of a case could not be read\n",
@@ -160,10 +145,11 @@ fn answer_next(rt: &HostRuntime) -> bool {
     answer_input(rt, head[0], &mut room[0..length])
 }
 
-// A proved loop has to end, and nothing says that a stream does: the turns are counted down from a number that no run uses up.
+// A proved loop has to end, and nothing says that a stream does: there are as many turns as no run uses up.
 fn main(rt: HostRuntime) {
-    let mut turns = u64::MAX;
-    while 0 < turns && answer_next(&rt) {
-        turns -= 1;
+    for _ in 0..u64::MAX {
+        if !answer_next(&rt) {
+            return;
+        }
     }
 }

@@ -1,7 +1,6 @@
--- Where the room was not filled the input is what was read of it; where it was, and is longer than the bound, what is behind does not show.
---     read_within    what was read lies within the room
---     answered       its text is the input's
-use mathlib.Core.Path.{◌≡◌, sym, subst, ◌∙◌}
+-- Where the room was not filled the input is what was read of it; where it was, and is longer than the bound, what is behind does not show
+-- (answered).
+use mathlib.Core.Path.{◌≡◌, sym, ◌∙◌}
 use mathlib.Core.List.{List, append-nil}
 use mathlib.Core.Logic.{⊎_elim}
 use Prim.Native.Nat.{ℕ, ◌-◌, ◌≤◌, ◌<◌}
@@ -9,14 +8,7 @@ use native.Mathlib.Nat.{sub-zero}
 use native.Mathlib.Omega.{arith}
 use lib.ListN.{length, take, drop, length-take}
 use Rattle.lists.proofs.Test.{le_or_lt}
-use Rattle.streams.specs.Input.{Within}
 use Rattle.streams.specs.Answers.{Answers, Bounded}
-use Rattle.streams.specs.declared.Input.{Input}
-use Rattle.streams.specs.declared.Input.TheVariants.{Read}
-
-pub read_within : (input : Input) (count room : ℕ) → Within input room → input ≡ Read count → count ≤ room
-unfolding Within
-read_within input count room w e = subst (λ (i : Input). Within i room) e w
 
 pub answered : (bound : ℕ) (text : List ℕ → List ℕ) → Bounded bound text → (room : List ℕ) (count : ℕ) (written : List ℕ)
     → bound < length room → count ≤ length room → written ≡ text (take (count - 0) (drop 0 room)) → Answers text room count written

@@ -1,3 +1,2 @@
--- Laws for the programs: Answers. Laws for the loop that reads: Laws.
+-- Laws for the programs: Answers.
 pub mod Answers
-pub mod Laws

@@ -7,12 +7,10 @@ use mathlib.Core.Bool.{Bool, true, false, cond, not}
 use mathlib.Core.List.{List}
 use mathlib.Core.Option.{none, some, map}
 use mathlib.Core.Option as maybe
-use Rattle.std.proofs.Common.{Option, Some, None}
+use Rattle.std.proofs.Common.{Option, Some}
 use Prim.Native.Nat.{ℕ, ◌+◌, ◌-◌, ◌≤◌, ◌<◌}
 use native.Mathlib.Omega.{arith}
-use lib.Dec.{eqb, ltb}
-use Rattle.std.specs.Option.{option_eq}
-use borrow.Author.Rules.{rules}
+use lib.Dec.{ltb}
 use lib.ListN.{length}
 use borrow.Author.Tests.{ltb-true, ltb-false, not-true, not-false}
 use Rattle.lists.specs.Filter.{first_that}
@@ -37,13 +35,8 @@ use Rattle.boxes.specs.OwnBox.{own_box_at}
 use Rattle.boxes.specs.Wires.{WireAt, next_from, row_into, offer_at}
 use Rattle.boxes.specs.declared.NextWire.{NextWire}
 use Rattle.boxes.specs.declared.OwnBox.{OwnBox}
-use Rattle.boxes.proofs.IntoLaws.{wires_from, into, wire_mine, wires_skipped, wires_past, NextAt, next_at, next_there, next_into, next_wire, next_less, next_next, next_past, to_climbs}
+use Rattle.boxes.proofs.IntoLaws.{leads, wires_from, into, wire_mine, wires_skipped, wires_past, NextAt, next_at, next_there, next_into, next_wire, next_less, next_next, next_past, to_climbs}
 use Rattle.tracing.specs.Tracing.{mapping_in, supplier_in, sender_in, sender_of}
-
--- whether a wire leads to the box
-pub leads : (to : Option ℕ) (id : ℕ) (t : Bool) → t ≡ option_eq eqb to (Some id) → t ≡ true → to ≡ Some id
-leads None id t e y = search rules
-leads (Some k) id t e y = search rules
 
 -- the wires from the j-th on have the first that gives the route
 pub record SupplyingFacts (f : Form) (network list : List ℕ) (id : ℕ) (route : Route) (wire : NextWire) : Type 0 where

@@ -10,16 +10,16 @@ use layout::{
     EDGE_WIDTH, EDGES_FIELD, Form, HEAD_WIDTH, NODES_FIELD, POLICIES_FIELD, VERSION_FIELD,
     node_part, node_width, policy_offset,
 };
-use numbers::{put_part, put_u8, put_u16, put_u32, stride, wide, wide16};
+use numbers::{put_part, put_u8, put_u16, put_u32, stride};
 
 // The length of a record by its counts.
 pub fn size_of(form: Form, policies: u8, nodes: u16, edges: u16) -> usize
     requires { Usable form }
     ensures { (result ≡ size_of form policies nodes edges) × (result < 16777216) }
 {
-    let first = policy_offset(wide(policies));
-    let behind = stride(first, node_width(form), wide16(nodes));
-    stride(behind, EDGE_WIDTH, wide16(edges))
+    let first = policy_offset(usize::from(policies));
+    let behind = stride(first, node_width(form), usize::from(nodes));
+    stride(behind, EDGE_WIDTH, usize::from(edges))
 }
 
 // The three counts, as five bytes of out behind the length and the version.

@@ -1,11 +1,10 @@
--- The room is longer than the bound, worked out, and what was read lies within it (read_within).
+-- The room is longer than the bound, worked out.
 use Rattle.layout.specs.Form.{node_width, entry_width}
 use Rattle.reading.specs.Largest.{largest_network, largest_entries}
-use Rattle.streams.proofs.Answers.{read_within}
 use Rattle.cutting.specs.Text.{cut_bound}
 use borrow.Author.Rules.{rules}
 use Rattle.cut.proofs.main.Goals as goal
 
-pub answer-requires : goal.answer-requires
+pub run-requires : goal.run-requires
 unfolding cut_bound largest_network largest_entries node_width entry_width
-answer-requires c = (search rules, search (rules, read_within))
+run-requires c = search rules

@@ -2,8 +2,8 @@
 use Rattle.library.proofs.Laws.{checking}
 use Rattle.library.proofs.lnianotka_check.Goals as goal
 
-pub returns-in-Fine : goal.returns-in-Fine
-returns-in-Fine c = search checking
+pub returns-in-Ok : goal.returns-in-Ok
+returns-in-Ok c = search checking
 
-pub returns-in-Refused : goal.returns-in-Refused
-returns-in-Refused c = search checking
+pub returns-in-Err : goal.returns-in-Err
+returns-in-Err c = search checking

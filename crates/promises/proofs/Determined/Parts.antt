@@ -11,7 +11,7 @@ use Rattle.layout.proofs.node_offset.Reads as node_offset
 use Rattle.layout.proofs.edge_offset.Reads as edge_offset
 use Rattle.layout.proofs.entry_offset.Reads as entry_offset
 use Rattle.layout.proofs.total_of.Reads as total_of
-use Rattle.layout.proofs.number_of.Reads as number_of_lem
+use Rattle.layout.proofs.refusals.U8FromClass.from.Reads as number_from
 use Rattle.entries.proofs.entry_of.Reads as entry_of
 use Rattle.entries.proofs.entry_near.Reads as entry_near
 use Rattle.entries.proofs.row_behind.Reads as row_behind
@@ -53,8 +53,8 @@ one_entry_offset κs a r r' e e' p q = cc
 pub one_total_of : (κs : Lfts 1) → One (total_of.Post κs) (λ r e. r)
 one_total_of κs a r r' e e' p q = cc
 
-pub one_number_of : (κs : Lfts 0) → One (number_of_lem.Post κs) (λ r e. r)
-one_number_of κs a r r' e e' p q = cc
+pub one_number : (κs : Lfts 0) → One (number_from.Post κs) (λ r e. r)
+one_number κs a r r' e e' p q = cc
 
 pub one_entry_of : (κs : Lfts 1) → One (entry_of.Post κs) (λ r e. r)
 one_entry_of κs a r r' e e' p q = cc

@@ -1,4 +1,4 @@
-use Rattle.judging.proofs.SearchLaws.{searching, wiring, wiring_wire, wiring_due, wiring_promise, wiring_demand}
+use Rattle.judging.proofs.SearchLaws.{searching, wiring}
 use Rattle.preparing.proofs.PreparedLaws.{prepared}
 use borrow.Author.Rules.{rules}
 use Rattle.judging.proofs.first_fault.search.Goals as goal
@@ -30,26 +30,20 @@ loop-due-init c = search (rules, searching, wiring, prepared)
 pub nodes-preserved : goal.nodes-preserved
 nodes-preserved c = search (rules, searching, wiring, prepared)
 
-pub returns-in-Some-Due : goal.returns-in-Some-Due
-returns-in-Some-Due c =
-    rw c.in-Some-Due.field-0-is
-    (wiring_due _ _ _ _ _ _ _ _ _ c.loop-due.invariant (search rules) _ c.fault_at.ensures _ _ c.in-Some-Due.is c.in-Some-Due.field-0-is)
+pub returns-in-Due : goal.returns-in-Due
+returns-in-Due c = search (rules, wiring)
 
-pub returns-in-Some-Promise : goal.returns-in-Some-Promise
-returns-in-Some-Promise c =
-    rw c.in-Some-Promise.field-0-is
-    (wiring_promise _ _ _ _ _ _ _ _ _ c.loop-due.invariant (search rules) _ c.fault_at.ensures _ _ c.in-Some-Promise.is c.in-Some-Promise.field-0-is)
+pub returns-in-Promise : goal.returns-in-Promise
+returns-in-Promise c = search (rules, wiring)
 
-pub returns-in-Some-Demand : goal.returns-in-Some-Demand
-returns-in-Some-Demand c =
-    rw c.in-Some-Demand.field-0-is
-    (wiring_demand _ _ _ _ _ _ _ _ _ c.loop-due.invariant (search rules) _ c.fault_at.ensures _ _ c.in-Some-Demand.is c.in-Some-Demand.field-0-is)
+pub returns-in-Demand : goal.returns-in-Demand
+returns-in-Demand c = search (rules, wiring)
 
 pub over_wire-due-requires : goal.over_wire-due-requires
-over_wire-due-requires c = wiring_wire _ _ _ _ _ _ _ _ _ c.loop-due.invariant (search rules)
+over_wire-due-requires c = search wiring
 
 pub wire_behind-wire-requires : goal.wire_behind-wire-requires
-wire_behind-wire-requires c = (search (rules, prepared), wiring_wire _ _ _ _ _ _ _ _ _ c.loop-due.invariant (search rules))
+wire_behind-wire-requires c = (search (rules, prepared), search wiring)
 
 pub loop-due-smaller : goal.loop-due-smaller
 loop-due-smaller c = search (rules, searching, wiring, prepared)

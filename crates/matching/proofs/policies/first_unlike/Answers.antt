@@ -6,26 +6,14 @@ use Rattle.matching.proofs.policies.first_unlike.Goals as goal
 pub loop-i-init : goal.loop-i-init
 loop-i-init c = search (rules, seeking, policy_rows)
 
-pub policy_offset-at-requires : goal.policy_offset-at-requires
-policy_offset-at-requires c = search (rules, seeking, policy_rows)
-
 pub policy_at-requires : goal.policy_at-requires
 policy_at-requires c = search (rules, seeking, policy_rows)
 
 pub policy_at-requires-in-loop-i : goal.policy_at-requires-in-loop-i
 policy_at-requires-in-loop-i c = search (rules, seeking, policy_rows)
 
-pub same_policy-requires : goal.same_policy-requires
-same_policy-requires c = search (rules, seeking, policy_rows)
-
 pub returns-then-not-same_policy : goal.returns-then-not-same_policy
 returns-then-not-same_policy c = search (rules, seeking, policy_rows)
-
-pub overflow_add-i : goal.overflow_add-i
-overflow_add-i c = search (rules, seeking, policy_rows)
-
-pub loop-i-smaller : goal.loop-i-smaller
-loop-i-smaller c = search (rules, seeking, policy_rows)
 
 pub loop-i-preserved : goal.loop-i-preserved
 loop-i-preserved c = search (rules, seeking, policy_rows)

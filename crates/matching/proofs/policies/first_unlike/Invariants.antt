@@ -1,11 +1,7 @@
 -- Before the i-th turn every policy before it is the other network's (Seek).
 use Rattle.lists.proofs.Walk.{Seek}
 use Rattle.matching.specs.Policies.{policy_alike}
-use Prim.Native.Nat.{◌-◌}
 use Rattle.matching.proofs.policies.first_unlike.Given as goal
 
 abbrev pub invariant-loop-i : goal.invariant-loop-i
-invariant-loop-i l = Seek (policy_alike l.a l.b) l.n l.i
-
-abbrev pub decreases-loop-i : goal.decreases-loop-i
-decreases-loop-i l = l.n - l.i
+invariant-loop-i l = Seek (policy_alike l.pair.first.now l.pair.second.now) l.n l.i

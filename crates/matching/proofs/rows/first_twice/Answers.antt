@@ -3,26 +3,11 @@ use Rattle.matching.proofs.RowLaws.{rowing}
 use borrow.Author.Rules.{rules}
 use Rattle.matching.proofs.rows.first_twice.Goals as goal
 
-pub u16_at-n-requires : goal.u16_at-n-requires
-u16_at-n-requires c = search (rules, seeking, rowing)
-
-pub overflow_cast-n : goal.overflow_cast-n
-overflow_cast-n c = search (rules, seeking, rowing)
-
 pub loop-i-init : goal.loop-i-init
 loop-i-init c = search (rules, seeking, rowing)
 
-pub owned_once-requires : goal.owned_once-requires
-owned_once-requires c = search (rules, seeking, rowing)
-
 pub returns-then-not-owned_once : goal.returns-then-not-owned_once
 returns-then-not-owned_once c = search (rules, seeking, rowing)
-
-pub overflow_add-i : goal.overflow_add-i
-overflow_add-i c = search (rules, seeking, rowing)
-
-pub loop-i-smaller : goal.loop-i-smaller
-loop-i-smaller c = search (rules, seeking, rowing)
 
 pub loop-i-preserved : goal.loop-i-preserved
 loop-i-preserved c = search (rules, seeking, rowing)

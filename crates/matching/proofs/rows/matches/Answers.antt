@@ -3,20 +3,11 @@ use Rattle.matching.proofs.RowLaws.{field_rooms, match_laws}
 use borrow.Author.Rules.{rules}
 use Rattle.matching.proofs.rows.matches.Goals as goal
 
-pub node_offset-at-requires : goal.node_offset-at-requires
-node_offset-at-requires c = search (rules, field_rooms, match_laws)
-
 pub own_at-requires : goal.own_at-requires
 own_at-requires c = search (rules, field_rooms, match_laws)
 
-pub overflow_add-at : goal.overflow_add-at
-overflow_add-at c = search (rules, field_rooms, match_laws)
-
 pub route_at-requires : goal.route_at-requires
 route_at-requires c = search (rules, field_rooms, match_laws)
-
-pub same-requires : goal.same-requires
-same-requires c = search (rules, field_rooms, match_laws)
 
 pub returns-then-not-own_at : goal.returns-then-not-own_at
 returns-then-not-own_at c = search (rules, field_rooms, match_laws)
@@ -27,17 +18,8 @@ promising_at-requires c = search (rules, field_rooms, match_laws)
 pub returns-then-not-promising_at : goal.returns-then-not-promising_at
 returns-then-not-promising_at c = search (rules, field_rooms, match_laws)
 
-pub overflow_add-at-2 : goal.overflow_add-at-2
-overflow_add-at-2 c = search (rules, field_rooms, match_laws)
-
-pub overflow_add-at-3 : goal.overflow_add-at-3
-overflow_add-at-3 c = search (rules, field_rooms, match_laws)
-
 pub route_at-requires-2 : goal.route_at-requires-2
 route_at-requires-2 c = search (rules, field_rooms, match_laws)
-
-pub same-requires-2 : goal.same-requires-2
-same-requires-2 c = search (rules, field_rooms, match_laws)
 
 pub returns : goal.returns
 returns c = search (rules, field_rooms, match_laws)

@@ -17,21 +17,22 @@ slice_bounds-put_run-start c = search (rules, turning)
 
 pub put_run-requires : goal.put_run-requires
 put_run-requires c =
-    let given = c.requires.two in (
+    let given = c.requires.within in (
       search rules,
-      run_within _ _ _ _ _ given.2 c.run_below-b.ensures,
-      second_room _ _ _ _ _ given.1 given.2 _ _ c.run_below-a.ensures c.front_key.ensures.0 _ _ c.run_below-b.ensures
+      run_within _ _ _ _ _ given.1 c.run_below-b.ensures,
+      second_room _ _ _ _ _ given.0 given.1 _ _ c.run_below-a.ensures c.front_key.ensures.0 _ _ c.run_below-b.ensures
           c.front_key-2.ensures.0 _ c.requires.room _ _ c.put_run-size.ensures.size c.put_run-size.ensures.laid,
     )
 
-pub returns : goal.returns
-returns c =
-    let given = c.requires.two in
-    let a = c.run_below-a.ensures in
-    let j = c.front_key.ensures.0 in
-    let b = c.run_below-b.ensures in
-    let i = c.front_key-2.ensures.0 in
-    record {
-      gone = (first_gone _ _ _ _ _ given.1 given.2 _ _ a j, second_gone _ _ _ _ _ given.1 given.2 _ _ a j _ _ b i);
-      laid = turn_done _ _ _ _ _ given.1 given.2 _ _ a j _ _ b i _ c.requires.room _ _ c.put_run-size.ensures.size c.put_run-size.ensures.laid _ c.put_run.ensures.laid;
-    }
+pub returns-clause-first : goal.returns-clause-first
+returns-clause-first c = first_gone _ _ _ _ _ c.requires.within.0 c.requires.within.1 _ _ c.run_below-a.ensures c.front_key.ensures.0
+
+pub returns-clause-second : goal.returns-clause-second
+returns-clause-second c =
+    second_gone _ _ _ _ _ c.requires.within.0 c.requires.within.1 _ _ c.run_below-a.ensures c.front_key.ensures.0
+    _ _ c.run_below-b.ensures c.front_key-2.ensures.0
+
+pub returns-clause-laid : goal.returns-clause-laid
+returns-clause-laid c =
+    turn_done _ _ _ _ _ c.requires.within.0 c.requires.within.1 _ _ c.run_below-a.ensures c.front_key.ensures.0
+    _ _ c.run_below-b.ensures c.front_key-2.ensures.0 _ c.requires.room _ _ c.put_run-size.ensures.size c.put_run-size.ensures.laid _ c.put_run.ensures.laid

@@ -6,17 +6,26 @@ use Rattle.merging.proofs.node_merge.put_lower.Goals as goal
 pub put_node-requires : goal.put_node-requires
 put_node-requires c = search (rules, node_lower)
 
-pub returns-then-i-j : goal.returns-then-i-j
-returns-then-i-j c = search (rules, node_lower)
+pub returns-then-i-j-clause-size : goal.returns-then-i-j-clause-size
+returns-then-i-j-clause-size c = search (rules, node_lower)
+
+pub returns-then-i-j-clause-laid : goal.returns-then-i-j-clause-laid
+returns-then-i-j-clause-laid c = search (rules, node_lower)
 
 pub put_node-requires-then-j-i : goal.put_node-requires-then-j-i
 put_node-requires-then-j-i c = search (rules, node_lower)
 
-pub returns-then-j-i : goal.returns-then-j-i
-returns-then-j-i c = search (rules, node_lower)
+pub returns-then-j-i-clause-size : goal.returns-then-j-i-clause-size
+returns-then-j-i-clause-size c = search (rules, node_lower)
 
-pub put_meeting-requires : goal.put_meeting-requires
-put_meeting-requires c = search (rules, node_lower)
+pub returns-then-j-i-clause-laid : goal.returns-then-j-i-clause-laid
+returns-then-j-i-clause-laid c = search (rules, node_lower)
 
-pub returns : goal.returns
-returns c = search (rules, node_lower)
+pub put_meeting-requires-clause-nodes : goal.put_meeting-requires-clause-nodes
+put_meeting-requires-clause-nodes c = search (rules, node_lower)
+
+pub returns-clause-size : goal.returns-clause-size
+returns-clause-size c = search (rules, node_lower)
+
+pub returns-clause-laid : goal.returns-clause-laid
+returns-clause-laid c = search (rules, node_lower)
