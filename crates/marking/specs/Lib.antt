@@ -2,5 +2,5 @@
 pub mod Tables
 pub mod Marks
 pub mod Pieces
-pub mod OneProof
+pub mod Once
 pub mod Fragments

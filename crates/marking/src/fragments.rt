@@ -39,10 +39,7 @@ fn is_outside(form: Form, network: &[u8], fragments: &[u8; ROWS], k: u8, i: usiz
     requires { CheckedNetwork form network.now × (i < node_count network.now) }
     ensures { result ≡ outside form network.now fragments.now k i }
 {
-    if fragments[i] != k {
-        return true;
-    }
-    !is_own(form, network, i)
+    fragments[i] != k || !is_own(form, network, i)
 }
 
 // The first of n rows that is an own node of fragment k, or n.

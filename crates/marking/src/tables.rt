@@ -4,7 +4,7 @@ ghost use Rattle.records.specs.Checked.{CheckedNetwork, CheckedEntries};
 ghost use Rattle.records.specs.Entered.{EntryRows};
 ghost use Rattle.records.specs.Rows.{Filled};
 ghost use Rattle.marking.specs.Tables.{Numbered};
-ghost use Rattle.marking.specs.OneProof.{network-prop, sheet-prop, entry_rows-prop, numbered-prop, filled-prop};
+ghost use Rattle.marking.specs.Once.{network_once, sheet_once, entries_once, numbered_once, filled_once};
 
 use layout::{Form, ROWS};
 
@@ -15,9 +15,9 @@ pub struct Entered<'a> {
     pub network: &'a [u8],
     pub sheet: &'a [u8],
     pub entries: &'a [u16; ROWS],
-    pub ghost checked: { CheckedNetwork form network.now } by { network-prop },
-    pub ghost formed: { CheckedEntries form sheet_lead sheet.now } by { sheet-prop },
-    pub ghost noted: { EntryRows form sheet_lead network.now sheet.now entries.now } by { entry_rows-prop },
+    pub ghost checked: { CheckedNetwork form network.now } by { network_once },
+    pub ghost formed: { CheckedEntries form sheet_lead sheet.now } by { sheet_once },
+    pub ghost noted: { EntryRows form sheet_lead network.now sheet.now entries.now } by { entries_once },
 }
 
 // Fragment k of such a network, by the fragment number of each row.
@@ -26,7 +26,7 @@ pub struct Fragment<'a> {
     pub entered: Entered<'a>,
     pub fragments: &'a [u8; ROWS],
     pub k: u8,
-    pub ghost numbered: { Numbered entered.form entered.network.now entered.sheet.now fragments.now } by { numbered-prop },
+    pub ghost numbered: { Numbered entered.form entered.network.now entered.sheet.now fragments.now } by { numbered_once },
 }
 
 // The wires of a network beside fragment k, whatever numbers its rows have: the row of each id says where a wire's ends are.
@@ -37,6 +37,6 @@ pub struct Wires<'a> {
     pub rows: &'a [u16; 65536],
     pub fragments: &'a [u8; ROWS],
     pub k: u8,
-    pub ghost checked: { CheckedNetwork form network.now } by { network-prop },
-    pub ghost filled: { Filled form network.now rows.now } by { filled-prop form network.now rows.now },
+    pub ghost checked: { CheckedNetwork form network.now } by { network_once },
+    pub ghost filled: { Filled form network.now rows.now } by { filled_once form network.now rows.now },
 }
