@@ -3,20 +3,8 @@ use Rattle.preparing.proofs.PrepareLaws.{entering}
 use borrow.Author.Rules.{rules}
 use Rattle.preparing.proofs.tables.enter.Goals as goal
 
-pub place_entries-row-requires : goal.place_entries-row-requires
-place_entries-row-requires c = search (rules, entering)
-
-pub u16_at-requires : goal.u16_at-requires
-u16_at-requires c = search (rules, entering)
-
-pub refused_at-requires : goal.refused_at-requires
-refused_at-requires c = search (rules, entering)
-
 pub returns-then-row-from : goal.returns-then-row-from
 returns-then-row-from c = search (rules, entering)
-
-pub fill_stands-requires : goal.fill_stands-requires
-fill_stands-requires c = search (rules, entering)
 
 pub returns : goal.returns
 returns c = search (rules, entering)

@@ -3,21 +3,6 @@ use Rattle.preparing.proofs.LookupLaws.{naming}
 use borrow.Author.Rules.{rules}
 use Rattle.preparing.proofs.lookup.Lookup.named_part.Goals as goal
 
-pub offset_bounds-self-from : goal.offset_bounds-self-from
-offset_bounds-self-from c = search (rules, naming)
-
-pub bounds-self-from : goal.bounds-self-from
-bounds-self-from c = search (rules, naming)
-
-pub slice_bounds-result-count : goal.slice_bounds-result-count
-slice_bounds-result-count c = search (rules, naming)
-
-pub slice_bounds-result-start : goal.slice_bounds-result-start
-slice_bounds-result-start c = search (rules, naming)
-
-pub slice_bounds-result-end : goal.slice_bounds-result-end
-slice_bounds-result-end c = search (rules, naming)
-
 pub returns-then-self-from-eq0 : goal.returns-then-self-from-eq0
 returns-then-self-from-eq0 c = search (rules, naming)
 
