@@ -29,8 +29,7 @@ fn place_pass(proposal: &Proposal<'_, '_>, tally: Tally, out: &mut [u8]) -> usiz
     ensures count { result ≡ length (pass_rows proposal.now.form proposal.now.network.now proposal.now.list.now tally) }
     ensures text { out.new ≡ placed (pass_rows proposal.now.form proposal.now.network.now proposal.now.list.now tally) out.old }
 {
-    let mut none = [0u8; 0];
-    let length = put_census(proposal, tally, &mut none);
+    let length = put_census(proposal, tally, &mut []);
     if out.len() < length {
         return length;
     }

@@ -1,6 +1,9 @@
 -- The joiner's answers, refusal by refusal.
 --     joining_21, joining_22, joining_23, joining_24     each number, with its place and the buffer, and what is left where it does not apply
-use Prim.Native.Nat.{ℕ, ◌≤◌, ◌<◌}
+use Rattle.std.proofs.Common.{Option}
+use Rattle.std.specs.Bool.{then_some}
+use Rattle.std.specs.Option.{MatchOption}
+use Prim.Native.Nat.{ℕ, ◌≤◌, ◌<◌, min}
 use native.Mathlib.Omega.{arith}
 use mathlib.Core.Bool.{Bool, true, false, cond, not}
 use mathlib.Core.List.{List}
@@ -8,7 +11,7 @@ use mathlib.Core.Option.{none, some}
 use mathlib.Core.Path.{◌≡◌, refl, sym, ap₂, ◌∙◌}
 use lib.Dec.{leb, ltb}
 use lib.ListN.{length}
-use borrow.Author.Tests.{lt-ltb, le-ltb, leb-true, leb-false, not-true, not-false}
+use borrow.Author.Tests.{lt-ltb, le-ltb, ltb-true, ltb-false, leb-true, leb-false, not-true, not-false}
 use Rattle.lists.specs.All.{all_alike}
 use Rattle.lists.specs.Answer.{Answer, given, refused}
 use Rattle.lists.specs.First.{first_bad}
@@ -101,22 +104,30 @@ module _ (f : Form) (first second : List ℕ) where
         pub buffer_22 : (out : List ℕ) → out ≡ laid_answer f (join_said f first second) out
         buffer_22 out = rw said_22 refl
 
-      pub none_unmatched : 65536 ≤ place → Matched f first second
-      unfolding Matched
-      none_unmatched l = lowest_said ∙ rw (← e, le-ltb place 65536 l) refl
+    pub none_unmatched : 65536 ≤ lowest_unmatched f first second → Matched f first second
+    unfolding Matched
+    none_unmatched l = lowest_said ∙ rw (le-ltb (lowest_unmatched f first second) 65536 l) refl
 
 -- the lower of the two, as the code takes it
 module _ (f : Form) (first second : List ℕ) (a b i j : ℕ) (p : a ≡ first_bad (row_matched f first second) (node_count first))
     (q : b ≡ first_bad (row_matched f second first) (node_count second)) (e : i ≡ front_id f first a) (d : j ≡ front_id f second b) where
-  pub lowest_second : j < i → j ≡ lowest_unmatched f first second
+  lowest_is : min i j ≡ lowest_unmatched f first second
   unfolding lowest_unmatched
-  lowest_second l = rw (← p, ← q, ← e, ← d, lt-ltb j i l) refl
+  lowest_is = rw (← p, ← q, ← e, ← d) (go (ltb j i) refl)
+    where
+      go : (t : Bool) → ltb j i ≡ t → min i j ≡ cond (ltb j i) j i
+      go true h = let l = ltb-true j i h in rw h (omega arith)
+      go false h = let l = ltb-false j i h in rw h (omega arith)
 
-  pub lowest_first : i ≤ j → i ≡ lowest_unmatched f first second
-  unfolding lowest_unmatched
-  lowest_first l = rw (← p, ← q, ← e, ← d, le-ltb j i l) refl
-
-pub ruleset lowest_laws = (lowest_second, lowest_first)
+  -- it is an id, or no row is unmatched
+  pub lowest_found : (low : ℕ) → low ≡ min i j → (r : Option ℕ) → r ≡ then_some (ltb low 65536) low
+      → MatchOption r (65536 ≤ lowest_unmatched f first second) (λ place. (place ≡ lowest_unmatched f first second) × (place < 65536))
+  lowest_found low h r g = rw g (go (ltb low 65536) refl)
+    where
+      go : (t : Bool) → ltb low 65536 ≡ t
+          → MatchOption (then_some t low) (65536 ≤ lowest_unmatched f first second) (λ place. (place ≡ lowest_unmatched f first second) × (place < 65536))
+      go true y = (h ∙ lowest_is, ltb-true low 65536 y)
+      go false y = let l = ltb-false low 65536 y in let n = h ∙ lowest_is in omega arith
 
 pub ruleset joining_22 = (answer_22, buffer_22, none_unmatched)
 

@@ -6,7 +6,6 @@ use mathlib.Core.Path.{◌≡◌, refl, ◌∙◌}
 use mathlib.Core.Bool.{true}
 use mathlib.Core.List.{List}
 use Prim.Native.Nat.{ℕ, ◌-◌, ◌≤◌, ◌<◌}
-use native.Mathlib.Nat.{sub-zero}
 use native.Mathlib.Omega.{arith}
 use lib.ListN.{length, take, drop}
 use Rattle.lists.specs.Answer.{Answer, given}
@@ -61,9 +60,9 @@ module _ (input : List ℕ) (bound : ℕ) (b : bound ≡ join_bound) where
   text_over h = rw b (bound_over join_bound input _ (rw b at h))
 
   pub text_joined : (first : ℕ) → length input ≤ bound → first ≡ first_length input
-      → record_output (form_of (take (first - 0) (drop 0 input))) (join_networks (take (first - 0) (drop 0 input)) (take (length input - first) (drop first input))) ≡ join_text input
+      → record_output (form_of (take first input)) (join_networks (take first input) (take (length input - first) (drop first input))) ≡ join_text input
   unfolding join_text
-  text_joined first h e = rw (rest_lent input first, sub-zero, e) (bound_kept join_bound input _ (rw b at h))
+  text_joined first h e = rw (rest_lent input first, e) (bound_kept join_bound input _ (rw b at h))
 
 pub ruleset join_texts = (text_over, text_joined)
 

@@ -16,10 +16,6 @@ use Rattle.records.specs.Network.{network_refusal}
 unfoldable pub join_said : Form → List ℕ → List ℕ → Answer HouseNetwork
 join_said f first second = join (house highest) (house_telling highest) (bounds f) (read_network f first) (read_network f second)
 
--- the same, once the first is known to be sound
-unfoldable pub join_behind : Form → List ℕ → List ℕ → Answer HouseNetwork
-join_behind f first second = and_then (network_refusal second) (λ (g : Form). join_said f first second)
-
 unfoldable pub join_networks : List ℕ → List ℕ → Answer HouseNetwork
 join_networks first second =
     and_then (network_refusal first) (λ (f : Form).

@@ -50,5 +50,5 @@ pub fn join_bytes(input: &[u8], out: &mut [u8]) -> usize
         return place_line(Line::Refused(5, longest), out);
     }
     let first = first_length(input);
-    put_joint(&input[0..first], &input[first..], out)
+    put_joint(&input[..first], &input[first..], out)
 }

@@ -4,7 +4,7 @@ ghost use Rattle.layout.specs.Form.{Usable, node_width};
 ghost use Rattle.layout.specs.Layout.{policy_offset, node_part, node_offset, edge_offset, entry_offset, total};
 
 use crate::Form;
-use numbers::{stride, u16_at, wide};
+use numbers::{stride, u16_at};
 
 // Where the fields of a network's head stand, behind its length of four bytes, and how many bytes a head has.
 pub const VERSION_FIELD: usize = 4;
@@ -60,7 +60,7 @@ pub fn node_part(b: &[u8]) -> usize
     requires { 10 ≤ length b.now }
     ensures { (result ≡ node_part b.now) × (10 ≤ result) × (result ≤ 3325) }
 {
-    policy_offset(wide(b[POLICIES_FIELD]))
+    policy_offset(usize::from(b[POLICIES_FIELD]))
 }
 
 // The bytes of a node, which has its fields within it.

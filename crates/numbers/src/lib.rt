@@ -1,18 +1,18 @@
 // Numbers as a record holds them: big-endian. Their decimal digits, which `lines` puts into a text, are among the definitions.
 //
 // The readers and writers of a record's numbers ask for the room that they touch: their callers have tested the whole
-// record before, and a second test at each number would only cost time. `wide`, `wide16` and `one_if` have no `requires`.
+// record before, and a second test at each number would only cost time.
 #![tactic(auto)]
 
-mod counting;
 mod runs;
+mod strides;
 
 ghost use Rattle.std.specs.Prelude.{◌≡◌, [], ◌∷◌, ◌+◌, ◌≤◌, ◌<◌, length};
 ghost use Rattle.std.proofs.lemmas.List.Edits.{sets};
 ghost use Rattle.numbers.specs.BigEndian.{u16_at, u32_at, u16_bytes, u32_bytes};
 
-pub use counting::{one_if, stride, wide, wide16};
 pub use runs::{all_zero, put_part, put_zeros};
+pub use strides::stride;
 
 // The number of the two bytes of b at an offset.
 pub fn u16_at(b: &[u8], at: usize) -> u16

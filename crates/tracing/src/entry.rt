@@ -34,8 +34,7 @@ fn place_trail(lookup: &Lookup<'_, '_>, id: u16, out: &mut [u8]) -> usize
     if longest_trail() <= out.len() {
         return put_trail(lookup, id, out, 0);
     }
-    let mut none = [0u8; 0];
-    let length = put_trail(lookup, id, &mut none, 0);
+    let length = put_trail(lookup, id, &mut [], 0);
     if out.len() < length {
         return length;
     }

@@ -4,10 +4,10 @@ use contract.Lifetimes.{Lfts}
 use Rattle.lines.specs.Line.{line_bytes}
 use Rattle.boxes.proofs.Faults.{one_fault}
 use Rattle.judging.proofs.Answers.{one_verdict}
-use Rattle.preparing.proofs.row_part.Reads as row_part
-use Rattle.preparing.proofs.box_part.Reads as box_part
-use Rattle.preparing.proofs.box_route.Reads as box_route
-use Rattle.preparing.proofs.named_part.Reads as named_part
+use Rattle.preparing.proofs.lookup.Proposal.row_part.Reads as row_part
+use Rattle.preparing.proofs.lookup.Lookup.box_part.Reads as box_part
+use Rattle.preparing.proofs.lookup.Lookup.box_route.Reads as box_route
+use Rattle.preparing.proofs.lookup.Lookup.named_part.Reads as named_part
 use Rattle.boxes.proofs.own_box.Reads as own_box
 use Rattle.boxes.proofs.fault_at.Reads as fault_at
 use Rattle.boxes.proofs.first_wire.Reads as first_wire
@@ -19,7 +19,7 @@ use Rattle.judging.proofs.search.Reads as search
 use Rattle.judging.proofs.verdict_line.Reads as verdict_line
 use Rattle.promises.specs.Determined.{One}
 
-pub one_row_part : (κs : Lfts 2) → One (row_part.Post κs) (λ r e. r.now)
+pub one_row_part : (κs : Lfts 3) → One (row_part.Post κs) (λ r e. r.now)
 one_row_part κs a r r' e e' p q = cc
 
 pub one_box_part : (κs : Lfts 3) → One (box_part.Post κs) (λ r e. r.now)
@@ -34,7 +34,7 @@ one_named_part κs a r r' e e' p q = cc
 pub one_own_box : (κs : Lfts 1) → One (own_box.Post κs) (λ r e. r)
 one_own_box κs a r r' e e' p q = cc
 
-pub one_fault_at : (κs : Lfts 2) → One (fault_at.Post κs) (λ r e. r)
+pub one_fault_at : (κs : Lfts 3) → One (fault_at.Post κs) (λ r e. r)
 one_fault_at κs a r r' e e' p q = one_fault _ r r' p q
 
 pub one_first_wire : (κs : Lfts 1) → One (first_wire.Post κs) (λ r e. r)

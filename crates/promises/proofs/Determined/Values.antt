@@ -1,9 +1,6 @@
 -- One result of each function on numbers and routes. A contract is an equation for the result, or for the buffer that is written to, and two
 -- things that are equal to a third are equal.
 use contract.Lifetimes.{Lfts}
-use Rattle.numbers.proofs.wide.Reads as wide
-use Rattle.numbers.proofs.wide16.Reads as wide16
-use Rattle.numbers.proofs.one_if.Reads as one_if
 use Rattle.numbers.proofs.stride.Reads as stride
 use Rattle.numbers.proofs.u16_at.Reads as u16_at
 use Rattle.numbers.proofs.u32_at.Reads as u32_at
@@ -23,15 +20,6 @@ use Rattle.routes.proofs.policy_formed.Reads as policy_formed
 use Rattle.routes.proofs.route_at.Reads as route_at
 use Rattle.routes.proofs.policy_at.Reads as policy_at
 use Rattle.promises.specs.Determined.{One}
-
-pub one_wide : (κs : Lfts 0) → One (wide.Post κs) (λ r e. r)
-one_wide κs a r r' e e' p q = cc
-
-pub one_wide16 : (κs : Lfts 0) → One (wide16.Post κs) (λ r e. r)
-one_wide16 κs a r r' e e' p q = cc
-
-pub one_one_if : (κs : Lfts 0) → One (one_if.Post κs) (λ r e. r)
-one_one_if κs a r r' e e' p q = cc
 
 pub one_stride : (κs : Lfts 0) → One (stride.Post κs) (λ r e. r)
 one_stride κs a r r' e e' p q = cc

@@ -9,9 +9,6 @@ overflow_add-at c = search (rules, offers)
 pub bounds-network-at : goal.bounds-network-at
 bounds-network-at c = search (rules, offers)
 
-pub policy_offset-requires : goal.policy_offset-requires
-policy_offset-requires c = search (rules, offers)
-
 pub policy_at-policy-requires : goal.policy_at-policy-requires
 policy_at-policy-requires c = search (rules, offers)
 
@@ -23,9 +20,6 @@ u16_at-requires c = search (rules, offers)
 
 pub box_route-requires : goal.box_route-requires
 box_route-requires c = search (rules, offers)
-
-pub carry-requires : goal.carry-requires
-carry-requires c = search (rules, offers)
 
 pub returns : goal.returns
 returns c = search (rules, offers)

@@ -3,15 +3,6 @@ use native.Mathlib.Omega.{arith}
 use borrow.Author.Rules.{rules}
 use Rattle.boxes.proofs.wires.row_into.Goals as goal
 
-pub u16_at-requires : goal.u16_at-requires
-u16_at-requires c = search halving
-
-pub node_offset-base-requires : goal.node_offset-base-requires
-node_offset-base-requires c = search (rules, halving)
-
-pub u16_at-requires-2 : goal.u16_at-requires-2
-u16_at-requires-2 c = search halving
-
 pub loop-lo-init : goal.loop-lo-init
 loop-lo-init c = half_start _ _ _ _
 

@@ -8,6 +8,3 @@ overflow_add-wire c = search (rules, wire_behinds)
 
 pub wire_from-requires : goal.wire_from-requires
 wire_from-requires c = search (rules, wire_behinds)
-
-pub returns : goal.returns
-returns c = search (rules, wire_behinds)

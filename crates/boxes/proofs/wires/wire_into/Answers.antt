@@ -8,6 +8,3 @@ edge_offset-requires c = search (rules, wire_intos)
 
 pub wire_from-requires : goal.wire_from-requires
 wire_from-requires c = search (rules, wire_intos)
-
-pub returns : goal.returns
-returns c = search wire_intos

@@ -7,14 +7,23 @@ use Rattle.joining.proofs.entry.join_alike.Goals as goal
 pub overflow_sub-nodes : goal.overflow_sub-nodes
 overflow_sub-nodes c = search (rules, joining_24, counting_joint)
 
-pub returns-then-form-nodes : goal.returns-then-form-nodes
-returns-then-form-nodes c = search (rules, joining_24, counting_joint)
+pub returns-then-form-nodes-clause-answer : goal.returns-then-form-nodes-clause-answer
+returns-then-form-nodes-clause-answer c = search (rules, joining_24, counting_joint)
 
-pub returns-then-over : goal.returns-then-over
-returns-then-over c = search (rules, joining_24, counting_joint)
+pub returns-then-form-nodes-clause-buffer : goal.returns-then-form-nodes-clause-buffer
+returns-then-form-nodes-clause-buffer c = search (rules, joining_24, counting_joint)
+
+pub returns-then-over-clause-answer : goal.returns-then-over-clause-answer
+returns-then-over-clause-answer c = search (rules, joining_24, counting_joint)
+
+pub returns-then-over-clause-buffer : goal.returns-then-over-clause-buffer
+returns-then-over-clause-buffer c = search (rules, joining_24, counting_joint)
 
 pub lay_joint-size-requires : goal.lay_joint-size-requires
 lay_joint-size-requires c = search (rules, joining_24, counting_joint)
 
-pub returns : goal.returns
-returns c = search (rules, joining_24, counting_joint)
+pub returns-clause-answer : goal.returns-clause-answer
+returns-clause-answer c = search (rules, joining_24, counting_joint)
+
+pub returns-clause-buffer : goal.returns-clause-buffer
+returns-clause-buffer c = search (rules, joining_24, counting_joint)

@@ -3,11 +3,14 @@ use Rattle.joining.proofs.RecordLaws.{recording}
 use borrow.Author.Rules.{rules}
 use Rattle.joining.proofs.whole.lay_joint.Goals as goal
 
-pub returns-then-out-size : goal.returns-then-out-size
-returns-then-out-size c = search (rules, recording)
+pub returns-then-short-clause-size : goal.returns-then-short-clause-size
+returns-then-short-clause-size c = search (rules, recording)
 
-pub lay_parts-requires : goal.lay_parts-requires
-lay_parts-requires c = search (rules, recording)
+pub returns-then-short-clause-laid : goal.returns-then-short-clause-laid
+returns-then-short-clause-laid c = search (rules, recording)
 
-pub returns : goal.returns
-returns c = search (rules, recording)
+pub lay_parts-requires-clause-join_parts : goal.lay_parts-requires-clause-join_parts
+lay_parts-requires-clause-join_parts c = search (rules, recording)
+
+pub returns-clause-size : goal.returns-clause-size
+returns-clause-size c = search (rules, recording)

@@ -4,15 +4,6 @@ use Rattle.preparing.proofs.GivenLaws.{prepared_after}
 use borrow.Author.Rules.{rules}
 use Rattle.judging.proofs.entry.judge.Goals as goal
 
-pub prepare-requires : goal.prepare-requires
-prepare-requires c = search (rules, judging)
-
-pub enum_known-r : goal.enum_known-r
-enum_known-r c = search (rules, judging)
-
-pub enum_known-form : goal.enum_known-form
-enum_known-form c = search (rules, judging)
-
 pub new-requires : goal.new-requires
 new-requires c =
     search (

@@ -4,24 +4,6 @@ use Rattle.preparing.proofs.GivenLaws.{prepared_after}
 use borrow.Author.Rules.{rules}
 use Rattle.judging.proofs.entry.neighbour.Goals as goal
 
-pub prepare-requires : goal.prepare-requires
-prepare-requires c = search (rules, asking)
-
-pub enum_told-1 : goal.enum_told-1
-enum_told-1 c = search (rules, asking)
-
-pub slice_bounds-result-count : goal.slice_bounds-result-count
-slice_bounds-result-count c = search (rules, asking)
-
-pub slice_bounds-result-start : goal.slice_bounds-result-start
-slice_bounds-result-start c = search (rules, asking)
-
-pub slice_bounds-result-end : goal.slice_bounds-result-end
-slice_bounds-result-end c = search (rules, asking)
-
-pub enum_known-form : goal.enum_known-form
-enum_known-form c = search (rules, asking)
-
 pub new-requires : goal.new-requires
 new-requires c =
     search (

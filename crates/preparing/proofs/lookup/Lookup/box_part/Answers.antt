@@ -6,9 +6,3 @@ use Rattle.preparing.proofs.lookup.Lookup.box_part.Goals as goal
 
 pub row_in-requires : goal.row_in-requires
 row_in-requires c = search (rules, box_parts, prepared)
-
-pub row_part-requires : goal.row_part-requires
-row_part-requires c = search (rules, box_parts, prepared)
-
-pub returns : goal.returns
-returns c = search (rules, box_parts, prepared)

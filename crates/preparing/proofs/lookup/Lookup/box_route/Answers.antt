@@ -3,9 +3,6 @@ use Rattle.preparing.proofs.LookupLaws.{box_routes}
 use borrow.Author.Rules.{rules}
 use Rattle.preparing.proofs.lookup.Lookup.box_route.Goals as goal
 
-pub box_part-requires : goal.box_part-requires
-box_part-requires c = search (rules, box_routes)
-
 pub route_at-requires : goal.route_at-requires
 route_at-requires c = search (rules, box_routes)
 

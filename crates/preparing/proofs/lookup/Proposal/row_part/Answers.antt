@@ -12,12 +12,6 @@ bounds-self-row c = search (rules, row_parts)
 pub overflow_add-result : goal.overflow_add-result
 overflow_add-result c = search (rules, row_parts)
 
-pub slice_bounds-result-count : goal.slice_bounds-result-count
-slice_bounds-result-count c = search (rules, row_parts)
-
-pub slice_bounds-result-start : goal.slice_bounds-result-start
-slice_bounds-result-start c = search (rules, row_parts)
-
 pub slice_bounds-result-end : goal.slice_bounds-result-end
 slice_bounds-result-end c = search (rules, row_parts)
 
@@ -26,12 +20,6 @@ returns-then-at-n c = search (rules, row_parts)
 
 pub overflow_add-result-2 : goal.overflow_add-result-2
 overflow_add-result-2 c = search (rules, row_parts)
-
-pub slice_bounds-result-count-2 : goal.slice_bounds-result-count-2
-slice_bounds-result-count-2 c = search (rules, row_parts)
-
-pub slice_bounds-result-start-2 : goal.slice_bounds-result-start-2
-slice_bounds-result-start-2 c = search (rules, row_parts)
 
 pub slice_bounds-result-end-2 : goal.slice_bounds-result-end-2
 slice_bounds-result-end-2 c = search (rules, row_parts)

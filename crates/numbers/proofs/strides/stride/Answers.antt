@@ -1,7 +1,7 @@
 -- The offset is the definition's; the bounds keep its product small.
 use Rattle.numbers.proofs.StrideLaws.{striding}
 use borrow.Author.Rules.{rules}
-use Rattle.numbers.proofs.counting.stride.Goals as goal
+use Rattle.numbers.proofs.strides.stride.Goals as goal
 
 pub overflow_mul-result : goal.overflow_mul-result
 overflow_mul-result c = search (rules, striding)
