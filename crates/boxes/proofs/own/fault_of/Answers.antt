@@ -9,9 +9,6 @@ same-requires c = search (rules, faults)
 pub returns-then-not-same : goal.returns-then-not-same
 returns-then-not-same c = search faults
 
-pub node_offset-at-requires : goal.node_offset-at-requires
-node_offset-at-requires c = search (rules, faults)
-
 pub promising_at-requires : goal.promising_at-requires
 promising_at-requires c = search (rules, faults)
 

@@ -3,9 +3,6 @@ use Rattle.boxes.proofs.BoxLaws.{own_boxes_lem}
 use borrow.Author.Rules.{rules}
 use Rattle.boxes.proofs.own.own_box.Goals as goal
 
-pub node_offset-at-requires : goal.node_offset-at-requires
-node_offset-at-requires c = search (rules, own_boxes_lem)
-
 pub u16_at-requires : goal.u16_at-requires
 u16_at-requires c = search (rules, own_boxes_lem)
 

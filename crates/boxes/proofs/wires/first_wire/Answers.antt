@@ -3,9 +3,6 @@ use Rattle.boxes.proofs.WireLaws.{wire_firsts}
 use borrow.Author.Rules.{rules}
 use Rattle.boxes.proofs.wires.first_wire.Goals as goal
 
-pub edge_offset-requires : goal.edge_offset-requires
-edge_offset-requires c = search (rules, wire_firsts)
-
 pub wire_from-requires : goal.wire_from-requires
 wire_from-requires c = search (rules, wire_firsts)
 

@@ -3,15 +3,6 @@ use native.Mathlib.Omega.{arith}
 use borrow.Author.Rules.{rules}
 use Rattle.boxes.proofs.wires.row_into.Goals as goal
 
-pub u16_at-requires : goal.u16_at-requires
-u16_at-requires c = search halving
-
-pub node_offset-base-requires : goal.node_offset-base-requires
-node_offset-base-requires c = search (rules, halving)
-
-pub u16_at-requires-2 : goal.u16_at-requires-2
-u16_at-requires-2 c = search halving
-
 pub loop-lo-init : goal.loop-lo-init
 loop-lo-init c = half_start _ _ _ _
 
@@ -24,8 +15,8 @@ overflow_add-mid c = omega arith
 pub stride-requires : goal.stride-requires
 stride-requires c = (search rules, search rules, let within = c.loop-lo.invariant.high in omega arith)
 
-pub u16_at-requires-in-loop-lo : goal.u16_at-requires-in-loop-lo
-u16_at-requires-in-loop-lo c = search halving
+pub u16_at-requires : goal.u16_at-requires
+u16_at-requires c = search halving
 
 pub overflow_add-lo : goal.overflow_add-lo
 overflow_add-lo c = omega arith
