@@ -49,10 +49,8 @@ fn asks_route(network: &NetworkRecord, at: usize) -> bool
     requires { at + (9 + network.now.form.route + network.now.form.route) ≤ length network.now.bytes.now }
     ensures { result ≡ asks_route (demand_at network.now.bytes.now (at + 4 + network.now.form.route + network.now.form.route)) }
 {
-    matches!(
-        demand_at(network.form.route, network.bytes, at),
-        Demand::Hold { .. }
-    )
+    let demand = demand_at(network.form.route, network.bytes, at);
+    matches!(demand, Demand::Hold { .. })
 }
 
 // Whether it has to hold none.
@@ -60,10 +58,8 @@ fn asks_none(network: &NetworkRecord, at: usize) -> bool
     requires { at + (9 + network.now.form.route + network.now.form.route) ≤ length network.now.bytes.now }
     ensures { result ≡ asks_none (demand_at network.now.bytes.now (at + 4 + network.now.form.route + network.now.form.route)) }
 {
-    matches!(
-        demand_at(network.form.route, network.bytes, at),
-        Demand::HoldNone
-    )
+    let demand = demand_at(network.form.route, network.bytes, at);
+    matches!(demand, Demand::HoldNone)
 }
 
 // Whether the own box in a row holds no route though nobody asked for its silence.

@@ -6,8 +6,5 @@ use Rattle.counting.proofs.counts.carries.Goals as goal
 pub route_at-requires : goal.route_at-requires
 route_at-requires c = search (rules, carrying)
 
-pub is_route-requires : goal.is_route-requires
-is_route-requires c = search (rules, carrying)
-
 pub returns : goal.returns
 returns c = search (rules, carrying)
