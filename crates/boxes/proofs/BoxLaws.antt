@@ -30,7 +30,7 @@ use Rattle.routes.specs.Carry.{highest}
 use Rattle.preparing.specs.Parts.{row_part}
 use Rattle.preparing.specs.Prepared.{Listed, Standing}
 use Rattle.preparing.proofs.PartLaws.{row_long, row_route}
-use Rattle.preparing.proofs.PreparedLaws.{standing_listed, standing_room}
+use Rattle.preparing.proofs.PreparedLaws.{standing_listed}
 use Rattle.preparing.proofs.Said.{mapping_own}
 
 module _ (w : ℕ) (b : List ℕ) (o : ℕ) (held : Route) (d : Demand) (t : Bool) (e : d ≡ demand_of w b o) (h : t ≡ meets d held) where
@@ -56,9 +56,6 @@ module _ (f : Form) (b : List ℕ) (row : ℕ) (held due : Route) where
     module _ (r : Room f b) (l : row < node_count b) where
       pub box_room : o + (9 + f.route + f.route) ≤ length b
       box_room = omega (arith, node_fields_room f b r row l)
-
-      pub promise_wide : 9 ≤ f.route
-      promise_wide = r.usable.wide
 
       pub promise_room : o + 4 + f.route + f.route ≤ length b
       promise_room = omega (arith, node_fields_room f b r row l)
@@ -95,16 +92,13 @@ module _ (f : Form) (b : List ℕ) (row : ℕ) (held due : Route) where
         unfolding fault_of unmet_of promise_at
         fault_kept x v g = rw (← at, ← e, not-false t y, a_promise z, promise_offset, ← k, ← m, not-false u v) g
 
-pub ruleset faults = (fault_due, box_room, promise_wide, promise_room, promise_fits, promise_base_fits, fault_free, fault_promise, fault_kept)
+pub ruleset faults = (fault_due, box_room, promise_room, promise_fits, promise_base_fits, fault_free, fault_promise, fault_kept)
 
 -- the own box in a row
 module _ (f : Form) (b : List ℕ) (row o : ℕ) (e : o ≡ node_offset f b row) where
   module _ (r : Room f b) (l : row < node_count b) where
     pub own_id_room : o + 2 ≤ length b
     own_id_room = omega (arith, node_fields_room f b r row l)
-
-    pub own_wide : 9 ≤ f.route
-    own_wide = r.usable.wide
 
     pub own_route_room : o + 3 + f.route ≤ length b
     own_route_room = omega (arith, node_fields_room f b r row l)
@@ -113,15 +107,12 @@ module _ (f : Form) (b : List ℕ) (row o : ℕ) (e : o ≡ node_offset f b row)
   unfolding own_box_at node_id
   own_is n x p q = ap₂ (λ (k : ℕ) (y : Route). record { node = k; initial = y }) (p ∙ ap (u16_at b) e) (q ∙ ap (λ (k : ℕ). route_at f.route b (k + 3)) e)
 
-pub ruleset own_boxes_lem = (own_id_room, own_wide, own_route_room, own_is)
+pub ruleset own_boxes_lem = (own_id_room, own_route_room, own_is)
 
 -- it holds what the list has for it
 module _ (f : Form) (network list stands : List ℕ) (h : Standing f network list stands) where
   listed : Listed f network list
   listed = standing_listed f network list stands h
-
-  pub held_wide : 9 ≤ f.route
-  held_wide = listed.checked.room.usable.wide
 
   module _ (row : ℕ) (l : row < node_count network) (x : List ℕ) (g : x ≡ row_part f network list row) where
     pub held_room : 0 + f.route ≤ length x
@@ -136,4 +127,4 @@ module _ (f : Form) (network list stands : List ℕ) (h : Standing f network lis
         ∙ mapping_own f network list listed.checked.rising row l own in
         e ∙ ap (λ (r : Route). fault_of f network row r u) is
 
-pub ruleset held_faults = (standing_room, held_wide, held_room, held_fault)
+pub ruleset held_faults = (held_room, held_fault)

@@ -32,7 +32,6 @@ use Rattle.routes.specs.declared.Route.{Route}
 use Rattle.reading.specs.House.{house}
 use Rattle.networks.specs.Solution.{mapping, trans}
 use Rattle.records.specs.Edge.{boxed, edge_to, edge_from, edge_policy}
-use Rattle.layout.specs.Form.{Usable}
 use Rattle.layout.specs.Layout.{node_count, edge_count, policy_offset, policy_count, node_offset, edge_part, edge_offset}
 use Rattle.layout.proofs.Places.{edge_first, edge_after, edge_room, policy_room}
 use Rattle.layout.specs.declared.Form.{Form}
@@ -84,19 +83,6 @@ pub ruleset wire_froms = (wire_none, wire_some, wire_read)
 
 pub ruleset wire_behinds = (wire_fits, wire_behind)
 
--- what the offsets ask for
-pub checked_usable : (f : Form) (network : List ℕ) → CheckedNetwork f network → Usable f
-checked_usable f network h = h.room.usable
-
-pub checked_long : (f : Form) (network : List ℕ) → CheckedNetwork f network → 10 ≤ length network
-checked_long f network h = h.room.long
-
-pub checked_nodes : (f : Form) (network : List ℕ) → CheckedNetwork f network → 5 + 2 ≤ length network
-checked_nodes f network h = let l = h.room.long in omega arith
-
-pub checked_edges : (f : Form) (network : List ℕ) → CheckedNetwork f network → 7 + 2 ≤ length network
-checked_edges f network h = let l = h.room.long in omega arith
-
 -- the first wire
 module _ (f : Form) (network : List ℕ) (o : ℕ) (e : o ≡ edge_offset f network 0) where
   pub first_end : WireEnd f network o
@@ -105,7 +91,7 @@ module _ (f : Form) (network : List ℕ) (o : ℕ) (e : o ≡ edge_offset f netw
   pub first_is : (w : NextWire) → w ≡ next_from network o → w ≡ next_from network (edge_part f network)
   first_is w q = q ∙ ap (next_from network) (e ∙ edge_first f network)
 
-pub ruleset wire_firsts = (checked_usable, checked_long, first_end, first_is)
+pub ruleset wire_firsts = (first_end, first_is)
 
 -- where the wires into a box begin, by halving: the to end of the j-th wire behind a base
 unfoldable pub to_at : List ℕ → ℕ → ℕ → ℕ
@@ -115,15 +101,7 @@ pub half_start : (network : List ℕ) (base id n : ℕ) → Around (to_at networ
 half_start network base id n = around_start (to_at network base) n id
 
 module _ (network : List ℕ) (base id n lo hi : ℕ) (a : Around (to_at network base) n id lo hi) where
-  -- the counts as the code reads and widens them
-  module _ (f : Form) (checked : CheckedNetwork f network) (k u v : ℕ) (b : base ≡ node_offset f network k) (wide : k ≡ u) (nodes : u ≡ node_count network)
-      (wide' : n ≡ v) (edges : v ≡ edge_count network) where
-    p : k ≡ node_count network
-    p = wide ∙ nodes
-
-    q : n ≡ edge_count network
-    q = wide' ∙ edges
-
+  module _ (f : Form) (checked : CheckedNetwork f network) (k : ℕ) (b : base ≡ node_offset f network k) (p : k ≡ node_count network) (q : n ≡ edge_count network) where
     ends : to_at network base ≡ edge_to f network
     unfolding to_at edge_to edge_offset
     ends = let to : ℕ → ℕ → ℕ = λ o j. u16_at network (at o 5 j) in ap to (b ∙ ap (node_offset f network) p)
@@ -171,9 +149,9 @@ unfolding row_into
 into_place f network checked id j q =
     omega (arith, q, first_le (λ k. ltb (edge_to f network k) id) (edge_count network), u16_below network 7 (checked.bytes _, checked.bytes _))
 
-pub ruleset halving = (checked_usable, checked_long, checked_nodes, checked_edges, half_room, half_up, half_down, half_end)
+pub ruleset halving = (half_room, half_up, half_down, half_end)
 
-pub ruleset wire_intos = (checked_usable, checked_long, into_end, into_is, into_place)
+pub ruleset wire_intos = (into_end, into_is, into_place)
 
 -- what the wire at an offset makes of a route
 trans_at_lem : (f : Form) (network : List ℕ) (o : ℕ) (r : Route) → get_or network (o + 4) 0 < policy_count network

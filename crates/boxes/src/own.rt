@@ -1,27 +1,26 @@
 // An own box: what its due route starts from, and what is wrong there.
 ghost use Rattle.std.specs.Prelude.{◌≡◌, ◌+◌, ◌≤◌, ◌<◌, length, true};
 ghost use Rattle.networks.specs.Judge.{held};
-ghost use Rattle.layout.specs.Layout.{Room, node_count};
+ghost use Rattle.layout.specs.Layout.{node_count};
 ghost use Rattle.nodes.specs.Node.{is_own};
 ghost use Rattle.reading.specs.Parts.{demand_at};
 ghost use Rattle.boxes.specs.OwnBox.{own_box_at, finding_of, unmet_of, fault_of, fault_at};
 
 use crate::{Fault, OwnBox};
-use layout::{Form, node_offset};
-use nodes::{demand_at, promising_at};
+use nodes::{NetworkRecord, demand_at, promising_at};
 use numbers::u16_at;
 use preparing::Proposal;
 use routes::{Route, is_met, route_at, same};
 
 // The own box in a row.
-pub fn own_box(form: Form, network: &[u8], row: usize) -> OwnBox
-    requires { Room form network.now × (row < node_count network.now) }
-    ensures { result ≡ own_box_at form network.now row }
+pub fn own_box(network: &NetworkRecord, row: usize) -> OwnBox
+    requires { row < node_count network.now.bytes.now }
+    ensures { result ≡ own_box_at network.now.form network.now.bytes.now row }
 {
-    let at = node_offset(form, network, row);
+    let at = network.node_offset(row);
     OwnBox {
-        node: u16_at(network, at),
-        initial: route_at(form.route, network, at + 3),
+        node: u16_at(network.bytes, at),
+        initial: route_at(network.form.route, network.bytes, at + 3),
     }
 }
 
@@ -38,31 +37,32 @@ fn unmet(width: usize, network: &[u8], at: usize, held: Route) -> Option<Fault>
 
 // The first fault of the own box in a row, which holds one route and is due another: the due route comes before the
 // promise, and the promise before the demand.
-fn fault_of(form: Form, network: &[u8], row: usize, held: Route, due: Route) -> Option<Fault>
-    requires { Room form network.now × (row < node_count network.now) }
-    ensures { finding_of result ≡ fault_of form network.now row held due }
+fn fault_of(network: &NetworkRecord, row: usize, held: Route, due: Route) -> Option<Fault>
+    requires { row < node_count network.now.bytes.now }
+    ensures { finding_of result ≡ fault_of network.now.form network.now.bytes.now row held due }
 {
     if !same(held, due) {
         return Some(Fault::Due(due));
     }
-    let at = node_offset(form, network, row);
-    let width = form.route;
-    if !promising_at(width, network, at) {
-        return unmet(width, network, at, held);
+    let at = network.node_offset(row);
+    let width = network.form.route;
+    let bytes = network.bytes;
+    if !promising_at(width, bytes, at) {
+        return unmet(width, bytes, at, held);
     }
-    let promise = route_at(width, network, at + 4 + width);
+    let promise = route_at(width, bytes, at + 4 + width);
     if !same(held, promise) {
         return Some(Fault::Promise(promise));
     }
-    unmet(width, network, at, held)
+    unmet(width, bytes, at, held)
 }
 
 // The first fault of the own box in a row, which is due a route: it holds the one that the list has for it.
 pub fn fault_at(proposal: &Proposal<'_, '_>, row: usize, due: Route) -> Option<Fault>
-    requires { (row < node_count proposal.now.network.now) × (is_own proposal.now.form proposal.now.network.now row ≡ true) }
-    ensures { finding_of result ≡ fault_at proposal.now.form proposal.now.network.now proposal.now.list.now row due }
+    requires { (row < node_count proposal.now.network.bytes.now) × (is_own proposal.now.network.form proposal.now.network.bytes.now row ≡ true) }
+    ensures { finding_of result ≡ fault_at proposal.now.network.form proposal.now.network.bytes.now proposal.now.list.now row due }
 {
-    let form = proposal.form;
-    let held = route_at(form.route, proposal.row_part(row), 0);
-    fault_of(form, proposal.network, row, held, due)
+    let network = &proposal.network;
+    let held = route_at(network.form.route, proposal.row_part(row), 0);
+    fault_of(network, row, held, due)
 }

@@ -7,52 +7,53 @@ ghost use Rattle.records.specs.Checked.{CheckedNetwork};
 ghost use Rattle.boxes.specs.Wires.{WireAt, WireEnd, next_from, row_into, offer_at};
 
 use crate::NextWire;
-use layout::{EDGE_WIDTH, EDGES_FIELD, Form, NODES_FIELD, edge_offset, node_offset, policy_offset};
+use layout::{EDGE_WIDTH, policy_offset};
+use nodes::NetworkRecord;
 use numbers::{stride, u16_at};
 use preparing::Lookup;
 use routes::{HIGHEST, Route, better, carry, policy_at};
 
 // The wire at an offset. The last one ends where the record ends.
-fn wire_from(form: Form, network: &[u8], at: usize) -> NextWire
-    requires { CheckedNetwork form network.now × WireEnd form network.now at }
-    ensures { result ≡ next_from network.now at }
+fn wire_from(network: &NetworkRecord, at: usize) -> NextWire
+    requires { CheckedNetwork network.now.form network.now.bytes.now × WireEnd network.now.form network.now.bytes.now at }
+    ensures { result ≡ next_from network.now.bytes.now at }
 {
-    if network.len() <= at {
+    if network.bytes.len() <= at {
         return NextWire { at, to: None };
     }
     NextWire {
         at,
-        to: Some(u16_at(network, at)),
+        to: Some(u16_at(network.bytes, at)),
     }
 }
 
 // The first wire.
-pub fn first_wire(form: Form, network: &[u8]) -> NextWire
-    requires { CheckedNetwork form network.now }
-    ensures { result ≡ next_from network.now (edge_part form network.now) }
+pub fn first_wire(network: &NetworkRecord) -> NextWire
+    requires { CheckedNetwork network.now.form network.now.bytes.now }
+    ensures { result ≡ next_from network.now.bytes.now (edge_part network.now.form network.now.bytes.now) }
 {
-    wire_from(form, network, edge_offset(form, network, 0))
+    wire_from(network, network.edge_offset(0))
 }
 
 // The wire behind another.
-pub fn wire_behind(form: Form, network: &[u8], wire: NextWire) -> NextWire
-    requires { CheckedNetwork form network.now × WireAt form network.now wire.at }
-    ensures { result ≡ next_from network.now (wire.at + 5) }
+pub fn wire_behind(network: &NetworkRecord, wire: NextWire) -> NextWire
+    requires { CheckedNetwork network.now.form network.now.bytes.now × WireAt network.now.form network.now.bytes.now wire.at }
+    ensures { result ≡ next_from network.now.bytes.now (wire.at + 5) }
 {
-    wire_from(form, network, wire.at + 5)
+    wire_from(network, wire.at + 5)
 }
 
 // The row of the first wire to a box with this id or a higher one, found by halving.
-fn row_into(form: Form, network: &[u8], id: u16) -> usize
-    requires { CheckedNetwork form network.now }
-    ensures { result ≡ row_into form network.now id }
+fn row_into(network: &NetworkRecord, id: u16) -> usize
+    requires { CheckedNetwork network.now.form network.now.bytes.now }
+    ensures { result ≡ row_into network.now.form network.now.bytes.now id }
 {
-    let base = node_offset(form, network, usize::from(u16_at(network, NODES_FIELD)));
+    let base = network.node_offset(network.node_count());
     let mut lo = 0;
-    let mut hi = usize::from(u16_at(network, EDGES_FIELD));
+    let mut hi = network.edge_count();
     while lo < hi {
         let mid = lo + (hi - lo) / 2;
-        if u16_at(network, stride(base, EDGE_WIDTH, mid)) < id {
+        if u16_at(network.bytes, stride(base, EDGE_WIDTH, mid)) < id {
             lo = mid + 1;
         } else {
             hi = mid;
@@ -62,31 +63,27 @@ fn row_into(form: Form, network: &[u8], id: u16) -> usize
 }
 
 // The first wire to a box with this id or a higher one: the wires into the box are those from there on that lead to it.
-pub fn wire_into(form: Form, network: &[u8], id: u16) -> NextWire
-    requires { CheckedNetwork form network.now }
-    ensures { result ≡ next_from network.now (edge_offset form network.now (row_into form network.now id)) }
+pub fn wire_into(network: &NetworkRecord, id: u16) -> NextWire
+    requires { CheckedNetwork network.now.form network.now.bytes.now }
+    ensures { result ≡ next_from network.now.bytes.now (edge_offset network.now.form network.now.bytes.now (row_into network.now.form network.now.bytes.now id)) }
 {
-    wire_from(
-        form,
-        network,
-        edge_offset(form, network, row_into(form, network, id)),
-    )
+    wire_from(network, network.edge_offset(row_into(network, id)))
 }
 
 // What the wire at an offset gives the box that it leads to.
 pub fn offer(lookup: &Lookup<'_, '_>, at: usize) -> Route
-    requires { WireAt lookup.now.proposal.form lookup.now.proposal.network.now at }
-    ensures { result ≡ offer_at lookup.now.proposal.form lookup.now.proposal.network.now lookup.now.proposal.list.now at }
+    requires { WireAt lookup.now.proposal.network.form lookup.now.proposal.network.bytes.now at }
+    ensures { result ≡ offer_at lookup.now.proposal.network.form lookup.now.proposal.network.bytes.now lookup.now.proposal.list.now at }
 {
-    let network = lookup.proposal.network;
+    let network = lookup.proposal.network.bytes;
     let policy = policy_at(network, policy_offset(usize::from(network[at + 4])));
     carry(HIGHEST, policy, lookup.box_route(u16_at(network, at + 2)))
 }
 
 // The better of a route and what a wire gives.
 pub fn over_wire(lookup: &Lookup<'_, '_>, wire: NextWire, due: Route) -> Route
-    requires { WireAt lookup.now.proposal.form lookup.now.proposal.network.now wire.at }
-    ensures { result ≡ best beats due (offer_at lookup.now.proposal.form lookup.now.proposal.network.now lookup.now.proposal.list.now wire.at) }
+    requires { WireAt lookup.now.proposal.network.form lookup.now.proposal.network.bytes.now wire.at }
+    ensures { result ≡ best beats due (offer_at lookup.now.proposal.network.form lookup.now.proposal.network.bytes.now lookup.now.proposal.list.now wire.at) }
 {
     better(due, offer(lookup, wire.at))
 }

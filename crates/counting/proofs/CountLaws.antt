@@ -4,7 +4,6 @@
 --     carrying                   whether the node in a row holds one
 --     promising_routes           whether a promise is of a route
 --     asking_routes, asking_none what a demand asks
---     offsets                    where a node stands
 --     overlooking                silence that nobody asked for
 --     owning, assuming, rowing   an own box, an input, a row
 --     Counting, countings        the loop over the rows
@@ -35,7 +34,6 @@ use Rattle.networks.specs.Judge.{held as judge_held}
 use Rattle.networks.specs.Silence.{is_route}
 use Rattle.networks.specs.Solution.{mapping}
 use Rattle.layout.proofs.Places.{node_fields_room}
-use Rattle.layout.specs.Form.{Usable}
 use Rattle.layout.specs.Layout.{node_count, node_offset}
 use Rattle.layout.specs.declared.Form.{Form}
 use Rattle.nodes.specs.Node.{node_id, is_own, promising, demand_of}
@@ -48,7 +46,7 @@ use Rattle.reading.specs.Whole.{read_network, read_list}
 use Rattle.preparing.specs.Parts.{row_part}
 use Rattle.preparing.specs.Prepared.{Listed, Standing}
 use Rattle.preparing.proofs.PartLaws.{row_long, row_route}
-use Rattle.preparing.proofs.PreparedLaws.{standing_listed, standing_room}
+use Rattle.preparing.proofs.PreparedLaws.{standing_listed}
 use Rattle.preparing.proofs.Said.{mapping_own, mapping_input}
 use Rattle.counting.specs.Counted.{own_counted, input_counted, counted, counted_at, counted_in}
 use Rattle.counting.specs.declared.Counted.{Counted}
@@ -74,21 +72,9 @@ module _ (f : Form) (network list stands : List ℕ) (h : Standing f network lis
   listed : Listed f network list
   listed = standing_listed f network list stands h
 
-  pub carry_wide : 9 ≤ f.route
-  carry_wide = listed.checked.room.usable.wide
-
   module _ (i : ℕ) (l : i < node_count network) where
     abbrev held : Route
     held = mapping (house highest) (read_network f network) (read_list f list) (node_id f network i)
-
-    pub carry_usable : Usable f
-    carry_usable = listed.checked.room.usable
-
-    pub carry_head : 10 ≤ length network
-    carry_head = listed.checked.room.long
-
-    pub carry_small : i ≤ 65535
-    carry_small = let r = listed.checked.room.few in let u = carry_usable.few in omega arith
 
     pub carry_node_room : (o : ℕ) → o ≡ node_offset f network i → o + (9 + f.route + f.route) ≤ length network
     carry_node_room o e = omega (arith, node_fields_room f network listed.checked.room i l)
@@ -101,7 +87,7 @@ module _ (f : Form) (network list stands : List ℕ) (h : Standing f network lis
       carried s t q e = e ∙ ap there (q ∙ ap (λ (b : List ℕ). route_at f.route b 0) g
           ∙ row_route f network list i listed.checked.room listed.entries.formed l (listed.entered i l) listed.checked.rising)
 
-pub ruleset carrying = (standing_room, carry_wide, carry_room, carried)
+pub ruleset carrying = (carry_room, carried)
 
 -- a promise, by its flag and its route
 module _ (f : Form) (b : List ℕ) (o : ℕ) (p : Bool) (q : p ≡ promising f.route b o) where
@@ -256,11 +242,9 @@ module _ (f : Form) (network list stands : List ℕ) (h : Standing f network lis
     unfolding counted_at
     row_input t e = e ∙ ap (counted what (read_list f list)) (sym (input_row f network i other))
 
-pub ruleset offsets = (carry_usable, carry_head, carry_small)
-
 pub ruleset overlooking = (carry_node_room, overlooked_off, overlooked_on)
 
-pub ruleset owning = (carry_wide, carry_node_room, own_holding, own_inputs, own_assumed, own_silent, own_promises, own_promised, own_asked)
+pub ruleset owning = (carry_node_room, own_holding, own_inputs, own_assumed, own_silent, own_promises, own_promised, own_asked)
 
 pub ruleset assuming = (input_holding, input_inputs, input_assumed, input_promises, input_promised, input_asked, input_silent)
 
@@ -271,7 +255,7 @@ module _ (f : Form) (network : List ℕ) (i : ℕ) (t : Bool) (q : t ≡ is_own 
   pub row_theirs : t ≡ false → is_own f network i ≡ false
   row_theirs e = sym q ∙ e
 
-pub ruleset rowing = (standing_room, row_ours, row_theirs, row_own, row_input)
+pub ruleset rowing = (row_ours, row_theirs, row_own, row_input)
 
 -- what the loop over the rows knows
 pub record Counting (f : Form) (network list : List ℕ) (what : Counted) (n i so_far : ℕ) : Type 0 where
@@ -283,9 +267,9 @@ module _ (f : Form) (network list : List ℕ) (what : Counted) (n : ℕ) where
   counting_start = record { within = omega arith; counts = count_none _ }
 
   module _ (i so_far : ℕ) (s : Counting f network list what n i so_far) where
-    pub counting_end : (m : ℕ) → n ≤ i → n ≡ m → m ≡ node_count network → so_far ≡ counted_in f network list what
+    pub counting_end : n ≤ i → n ≡ node_count network → so_far ≡ counted_in f network list what
     unfolding counted_in
-    counting_end m l p q = let e : i ≡ node_count network = let w = s.within in omega arith in s.counts ∙ ap (count (counted_at f network list what)) e
+    counting_end l q = let e : i ≡ node_count network = let w = s.within in omega arith in s.counts ∙ ap (count (counted_at f network list what)) e
 
     pub counting_fits : Fits w64 n → i < n → Fits w64 (so_far + 1)
     counting_fits g l = let w = s.counts in omega (arith, count_le (counted_at f network list what) i)
@@ -297,10 +281,4 @@ module _ (f : Form) (network list : List ℕ) (what : Counted) (n : ℕ) where
       pub counting_off : t ≡ false → Counting f network list what n (i + 1) so_far
       counting_off e = record { within = omega arith; counts = rw (s.counts, count_next (counted_at f network list what) i, ← q, e) (omega arith) }
 
-pub counting_head : (f : Form) (network list stands : List ℕ) → Standing f network list stands → 5 + 2 ≤ length network
-counting_head f network list stands h = let r = (standing_room f network list stands h).long in omega arith
-
-pub counting_row : (i n m c : ℕ) → i < n → n ≡ m → m ≡ c → i < c
-counting_row i n m c l p q = omega arith
-
-pub ruleset countings = (counting_head, counting_row, counting_start, counting_end, counting_fits, counting_on, counting_off)
+pub ruleset countings = (counting_start, counting_end, counting_fits, counting_on, counting_off)

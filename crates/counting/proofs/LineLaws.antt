@@ -21,8 +21,6 @@ use Rattle.lines.specs.Written.{Written}
 use Rattle.lines.specs.declared.Line.TheVariants.{Pass}
 use Rattle.lines.proofs.Lengths.{pass_length}
 use Rattle.lines.proofs.Writing.{written_then, written_words, written_line}
-use Rattle.preparing.proofs.PreparedLaws.{standing_room}
-use Rattle.counting.proofs.CountLaws.{counting_head, counting_row}
 use Rattle.counting.specs.Counted.{counted_at}
 use Rattle.counting.specs.Lines.{share_line, silent_line, count_lines}
 use Rattle.counting.specs.Rows.{silent_row, pass_rows}
@@ -70,7 +68,7 @@ module _ (f : Form) (network list : List ℕ) (x : ℕ) (t : Bool) (q : t ≡ co
 
 pub ruleset telling = (share_put, counts_put, name_put)
 
-pub ruleset silencing = (standing_room, silent_off, silent_on)
+pub ruleset silencing = (silent_off, silent_on)
 
 -- what the loop over the rows knows
 pub record Silences (f : Form) (network list before after : List ℕ) (n at next i : ℕ) : Type 0 where
@@ -85,8 +83,8 @@ module _ (f : Form) (network list before : List ℕ) (n at : ℕ) where
   silences_start = record { within = omega arith; put = (refl, omega arith); near = omega arith; long = refl }
 
   module _ (after : List ℕ) (next i : ℕ) (s : Silences f network list before after n at next i) where
-    pub silences_room : (m : ℕ) → i < n → n ≡ m → m < 65536 → at < 2 ^ 63 → next + 28 < 2 ^ 64
-    silences_room m l wide few low = let h = s.near in omega arith
+    pub silences_room : i < n → n ≤ 65535 → at < 2 ^ 63 → next + 28 < 2 ^ 64
+    silences_room l few low = let h = s.near in omega arith
 
     pub silences_next : (after' : List ℕ) (next' : ℕ) → i < n → Written (silent_row f network list i) after next after' next' → next' ≤ next + 28
         → length after' ≡ length after → Silences f network list before after' n at next' (i + 1)
@@ -99,10 +97,10 @@ module _ (f : Form) (network list before : List ℕ) (n at : ℕ) where
           long = long ∙ s.long;
         }
 
-    pub silences_end : (m : ℕ) → n ≤ i → n ≡ m → m ≡ node_count network → Written (joined (silent_row f network list) (node_count network)) before at after next
-    silences_end m l p q = let e : i ≡ node_count network = let w = s.within in omega arith in rw e at s.put
+    pub silences_end : n ≤ i → n ≡ node_count network → Written (joined (silent_row f network list) (node_count network)) before at after next
+    silences_end l q = let e : i ≡ node_count network = let w = s.within in omega arith in rw e at s.put
 
-pub ruleset silences = (counting_head, counting_row, silences_start, silences_room, silences_next, silences_end)
+pub ruleset silences = (silences_start, silences_room, silences_next, silences_end)
 
 -- the judge's line of a pass, and what is behind it
 module _ (boxes r : ℕ) (a b : List ℕ) (w : Written (line_bytes (Pass boxes)) a 0 b r) where

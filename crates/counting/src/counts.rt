@@ -15,9 +15,7 @@ ghost use Rattle.counting.specs.Counted.{own_counted, input_counted, counted_at,
 ghost use Rattle.counting.specs.declared.Counted.TheVariants.{Silent};
 
 use crate::Counted;
-use layout::{Form, NODES_FIELD, node_offset};
-use nodes::{demand_at, is_own, promising_at};
-use numbers::u16_at;
+use nodes::{NetworkRecord, demand_at, promising_at};
 use preparing::Proposal;
 use routes::{Demand, Route, route_at};
 
@@ -30,70 +28,71 @@ fn is_route(route: Route) -> bool
 
 // Whether the node in a row holds a route: an own box by the list, an input by assumption.
 fn carries(proposal: &Proposal<'_, '_>, i: usize) -> bool
-    requires { i < node_count proposal.now.network.now }
-    ensures { result ≡ is_route (house highest) (mapping (house highest) (read_network proposal.now.form proposal.now.network.now) (read_list proposal.now.form proposal.now.list.now) (node_id proposal.now.form proposal.now.network.now i)) }
+    requires { i < node_count proposal.now.network.bytes.now }
+    ensures { result ≡ is_route (house highest) (mapping (house highest) (read_network proposal.now.network.form proposal.now.network.bytes.now) (read_list proposal.now.network.form proposal.now.list.now) (node_id proposal.now.network.form proposal.now.network.bytes.now i)) }
 {
-    is_route(route_at(proposal.form.route, proposal.row_part(i), 0))
+    is_route(route_at(proposal.network.form.route, proposal.row_part(i), 0))
 }
 
 // Whether the own box at an offset promises a route.
-fn promises_route(form: Form, network: &[u8], at: usize) -> bool
-    requires { (9 ≤ form.route) × (at + (9 + form.route + form.route) ≤ length network.now) }
-    ensures { result ≡ holds (is_route (house highest)) (promise_at form.route network.now (at + 3 + form.route)) }
+fn promises_route(network: &NetworkRecord, at: usize) -> bool
+    requires { at + (9 + network.now.form.route + network.now.form.route) ≤ length network.now.bytes.now }
+    ensures { result ≡ holds (is_route (house highest)) (promise_at network.now.form.route network.now.bytes.now (at + 3 + network.now.form.route)) }
 {
-    let width = form.route;
-    promising_at(width, network, at) && is_route(route_at(width, network, at + 4 + width))
+    let width = network.form.route;
+    let bytes = network.bytes;
+    promising_at(width, bytes, at) && is_route(route_at(width, bytes, at + 4 + width))
 }
 
 // Whether the own box at an offset has to hold a route.
-fn asks_route(form: Form, network: &[u8], at: usize) -> bool
-    requires { at + (9 + form.route + form.route) ≤ length network.now }
-    ensures { result ≡ asks_route (demand_at network.now (at + 4 + form.route + form.route)) }
+fn asks_route(network: &NetworkRecord, at: usize) -> bool
+    requires { at + (9 + network.now.form.route + network.now.form.route) ≤ length network.now.bytes.now }
+    ensures { result ≡ asks_route (demand_at network.now.bytes.now (at + 4 + network.now.form.route + network.now.form.route)) }
 {
-    matches!(demand_at(form.route, network, at), Demand::Hold { .. })
+    let demand = demand_at(network.form.route, network.bytes, at);
+    matches!(demand, Demand::Hold { .. })
 }
 
 // Whether it has to hold none.
-fn asks_none(form: Form, network: &[u8], at: usize) -> bool
-    requires { at + (9 + form.route + form.route) ≤ length network.now }
-    ensures { result ≡ asks_none (demand_at network.now (at + 4 + form.route + form.route)) }
+fn asks_none(network: &NetworkRecord, at: usize) -> bool
+    requires { at + (9 + network.now.form.route + network.now.form.route) ≤ length network.now.bytes.now }
+    ensures { result ≡ asks_none (demand_at network.now.bytes.now (at + 4 + network.now.form.route + network.now.form.route)) }
 {
-    matches!(demand_at(form.route, network, at), Demand::HoldNone)
+    let demand = demand_at(network.form.route, network.bytes, at);
+    matches!(demand, Demand::HoldNone)
 }
 
 // Whether the own box in a row holds no route though nobody asked for its silence.
 fn is_overlooked(proposal: &Proposal<'_, '_>, i: usize) -> bool
-    requires { (i < node_count proposal.now.network.now) × (is_own proposal.now.form proposal.now.network.now i ≡ true) }
-    ensures { result ≡ own_counted Silent (read_list proposal.now.form proposal.now.list.now) (own_in proposal.now.form proposal.now.network.now i) }
+    requires { (i < node_count proposal.now.network.bytes.now) × (is_own proposal.now.network.form proposal.now.network.bytes.now i ≡ true) }
+    ensures { result ≡ own_counted Silent (read_list proposal.now.network.form proposal.now.list.now) (own_in proposal.now.network.form proposal.now.network.bytes.now i) }
 {
-    let form = proposal.form;
-    let network = proposal.network;
-    !carries(proposal, i) && !asks_none(form, network, node_offset(form, network, i))
+    let network = &proposal.network;
+    !carries(proposal, i) && !asks_none(network, network.node_offset(i))
 }
 
 // Whether the own box in a row is counted.
 fn own_counted(proposal: &Proposal<'_, '_>, what: Counted, i: usize) -> bool
-    requires { (i < node_count proposal.now.network.now) × (is_own proposal.now.form proposal.now.network.now i ≡ true) }
-    ensures { result ≡ own_counted what (read_list proposal.now.form proposal.now.list.now) (own_in proposal.now.form proposal.now.network.now i) }
+    requires { (i < node_count proposal.now.network.bytes.now) × (is_own proposal.now.network.form proposal.now.network.bytes.now i ≡ true) }
+    ensures { result ≡ own_counted what (read_list proposal.now.network.form proposal.now.list.now) (own_in proposal.now.network.form proposal.now.network.bytes.now i) }
 {
-    let form = proposal.form;
-    let network = proposal.network;
-    let at = node_offset(form, network, i);
+    let network = &proposal.network;
+    let at = network.node_offset(i);
     match what {
         Counted::Holding => carries(proposal, i),
         Counted::Inputs => false,
         Counted::Assumed => false,
-        Counted::Promises => promising_at(form.route, network, at),
-        Counted::Promised => promises_route(form, network, at),
-        Counted::Asked => asks_route(form, network, at),
+        Counted::Promises => promising_at(network.form.route, network.bytes, at),
+        Counted::Promised => promises_route(network, at),
+        Counted::Asked => asks_route(network, at),
         Counted::Silent => is_overlooked(proposal, i),
     }
 }
 
 // Whether the input in a row is counted.
 fn input_counted(proposal: &Proposal<'_, '_>, what: Counted, i: usize) -> bool
-    requires { (i < node_count proposal.now.network.now) × (is_own proposal.now.form proposal.now.network.now i ≡ false) }
-    ensures { result ≡ input_counted what (input_in proposal.now.form proposal.now.network.now i) }
+    requires { (i < node_count proposal.now.network.bytes.now) × (is_own proposal.now.network.form proposal.now.network.bytes.now i ≡ false) }
+    ensures { result ≡ input_counted what (input_in proposal.now.network.form proposal.now.network.bytes.now i) }
 {
     match what {
         Counted::Holding => false,
@@ -108,10 +107,10 @@ fn input_counted(proposal: &Proposal<'_, '_>, what: Counted, i: usize) -> bool
 
 // Whether the node in a row is counted.
 pub fn is_counted(proposal: &Proposal<'_, '_>, what: Counted, i: usize) -> bool
-    requires { i < node_count proposal.now.network.now }
-    ensures { result ≡ counted_at proposal.now.form proposal.now.network.now proposal.now.list.now what i }
+    requires { i < node_count proposal.now.network.bytes.now }
+    ensures { result ≡ counted_at proposal.now.network.form proposal.now.network.bytes.now proposal.now.list.now what i }
 {
-    if is_own(proposal.form, proposal.network, i) {
+    if proposal.network.is_own(i) {
         return own_counted(proposal, what, i);
     }
     input_counted(proposal, what, i)
@@ -119,11 +118,10 @@ pub fn is_counted(proposal: &Proposal<'_, '_>, what: Counted, i: usize) -> bool
 
 // How many of the nodes are counted.
 pub fn count_rows(proposal: &Proposal<'_, '_>, what: Counted) -> usize
-    ensures { result ≡ counted_in proposal.now.form proposal.now.network.now proposal.now.list.now what }
+    ensures { result ≡ counted_in proposal.now.network.form proposal.now.network.bytes.now proposal.now.list.now what }
 {
-    let n = usize::from(u16_at(proposal.network, NODES_FIELD));
     let mut counted = 0;
-    for i in 0..n {
+    for i in 0..proposal.network.node_count() {
         if is_counted(proposal, what, i) {
             counted += 1;
         }

@@ -26,8 +26,8 @@ pub fn longest_census() -> usize
 
 // Places the census of a pass at the start of out where it fits, and answers its length.
 fn place_pass(proposal: &Proposal<'_, '_>, tally: Tally, out: &mut [u8]) -> usize
-    ensures count { result ≡ length (pass_rows proposal.now.form proposal.now.network.now proposal.now.list.now tally) }
-    ensures text { out.new ≡ placed (pass_rows proposal.now.form proposal.now.network.now proposal.now.list.now tally) out.old }
+    ensures count { result ≡ length (pass_rows proposal.now.network.form proposal.now.network.bytes.now proposal.now.list.now tally) }
+    ensures text { out.new ≡ placed (pass_rows proposal.now.network.form proposal.now.network.bytes.now proposal.now.list.now tally) out.old }
 {
     let length = put_census(proposal, tally, &mut []);
     if out.len() < length {
@@ -38,8 +38,8 @@ fn place_pass(proposal: &Proposal<'_, '_>, tally: Tally, out: &mut [u8]) -> usiz
 
 // Judges a list that judging does not refuse, and places its census.
 fn place_judged(lookup: &Lookup<'_, '_>, out: &mut [u8]) -> usize
-    ensures count { result ≡ length (census_from lookup.now.proposal.form lookup.now.proposal.network.now lookup.now.proposal.list.now (verdict_at lookup.now.proposal.form lookup.now.proposal.network.now lookup.now.proposal.list.now)) }
-    ensures text { out.new ≡ placed (census_from lookup.now.proposal.form lookup.now.proposal.network.now lookup.now.proposal.list.now (verdict_at lookup.now.proposal.form lookup.now.proposal.network.now lookup.now.proposal.list.now)) out.old }
+    ensures count { result ≡ length (census_from lookup.now.proposal.network.form lookup.now.proposal.network.bytes.now lookup.now.proposal.list.now (verdict_at lookup.now.proposal.network.form lookup.now.proposal.network.bytes.now lookup.now.proposal.list.now)) }
+    ensures text { out.new ≡ placed (census_from lookup.now.proposal.network.form lookup.now.proposal.network.bytes.now lookup.now.proposal.list.now (verdict_at lookup.now.proposal.network.form lookup.now.proposal.network.bytes.now lookup.now.proposal.list.now)) out.old }
 {
     let verdict = search(lookup);
     let Verdict::Pass(boxes) = verdict else {

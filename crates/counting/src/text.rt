@@ -8,15 +8,12 @@ ghost use Rattle.counting.specs.Rows.{silent_row, pass_rows};
 
 use crate::counts::{count_rows, is_counted};
 use crate::{Counted, Tally};
-use layout::NODES_FIELD;
 use lines::{Line, add_numbers, put_line, put_word};
-use nodes::node_id;
-use numbers::u16_at;
 use preparing::Proposal;
 
 // The counts, of a network with this many own boxes.
 pub fn tally(proposal: &Proposal<'_, '_>, boxes: usize) -> Tally
-    ensures { result ≡ tally_of proposal.now.form proposal.now.network.now proposal.now.list.now boxes }
+    ensures { result ≡ tally_of proposal.now.network.form proposal.now.network.bytes.now proposal.now.list.now boxes }
 {
     Tally {
         boxes,
@@ -66,27 +63,22 @@ fn put_name(id: usize, room: &mut [u8], at: usize) -> usize
 
 // The line of the box in a row, where it holds none though nobody asked for it.
 fn put_silent(proposal: &Proposal<'_, '_>, i: usize, room: &mut [u8], at: usize) -> usize
-    requires { (i < node_count proposal.now.network.now) × (at + 28 < 2 ^ 64) }
-    ensures { Written (silent_row proposal.now.form proposal.now.network.now proposal.now.list.now i) room.old at room.new result × (result ≤ at + 28) }
+    requires { (i < node_count proposal.now.network.bytes.now) × (at + 28 < 2 ^ 64) }
+    ensures { Written (silent_row proposal.now.network.form proposal.now.network.bytes.now proposal.now.list.now i) room.old at room.new result × (result ≤ at + 28) }
 {
     if !is_counted(proposal, Counted::Silent, i) {
         return at;
     }
-    put_name(
-        usize::from(node_id(proposal.form, proposal.network, i)),
-        room,
-        at,
-    )
+    put_name(usize::from(proposal.network.node_id(i)), room, at)
 }
 
 // These lines, by rising id.
 fn put_silents(proposal: &Proposal<'_, '_>, room: &mut [u8], at: usize) -> usize
     requires { at < 2 ^ 63 }
-    ensures { Written (joined (silent_row proposal.now.form proposal.now.network.now proposal.now.list.now) (node_count proposal.now.network.now)) room.old at room.new result }
+    ensures { Written (joined (silent_row proposal.now.network.form proposal.now.network.bytes.now proposal.now.list.now) (node_count proposal.now.network.bytes.now)) room.old at room.new result }
 {
-    let n = usize::from(u16_at(proposal.network, NODES_FIELD));
     let mut next = at;
-    for i in 0..n {
+    for i in 0..proposal.network.node_count() {
         next = put_silent(proposal, i, room, next);
     }
     next
@@ -94,7 +86,7 @@ fn put_silents(proposal: &Proposal<'_, '_>, room: &mut [u8], at: usize) -> usize
 
 // The judge's line of a pass, and the census behind it.
 pub fn put_census(proposal: &Proposal<'_, '_>, tally: Tally, room: &mut [u8]) -> usize
-    ensures { Written (pass_rows proposal.now.form proposal.now.network.now proposal.now.list.now tally) room.old 0 room.new result }
+    ensures { Written (pass_rows proposal.now.network.form proposal.now.network.bytes.now proposal.now.list.now tally) room.old 0 room.new result }
 {
     let next = put_line(Line::Pass(tally.boxes), room, 0);
     let next = put_counts(tally, room, next);

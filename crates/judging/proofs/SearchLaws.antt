@@ -21,7 +21,6 @@ use Rattle.lists.specs.Best.{best}
 use Rattle.lists.specs.Rising.{Rising, least}
 use Rattle.lists.proofs.Rising.{least_next}
 use Rattle.lists.proofs.Test.{and_l, and_r, le_or_lt}
-use Rattle.numbers.specs.BigEndian.{u16_at}
 use Rattle.routes.specs.Form.{route_at}
 use Rattle.routes.specs.Order.{beats}
 use Rattle.routes.specs.declared.Route.{Route}
@@ -149,13 +148,13 @@ module _ (f : Form) (network : List ℕ) (checked : CheckedNetwork f network) wh
         (eq-or-lt_of_le to_from)
 
 module _ (f : Form) (network list : List ℕ) where
-  pub search_start : (n m : ℕ) (wire : NextWire) → CheckedNetwork f network → n ≡ m → m ≡ u16_at network 5 → wire ≡ next_from network (edge_part f network)
+  pub search_start : (n : ℕ) (wire : NextWire) → CheckedNetwork f network → n ≡ node_count network → wire ≡ next_from network (edge_part f network)
       → Searching f network list n 0 0 wire
   unfolding Searching least
-  search_start n m wire h p q e = record {
+  search_start n wire h p e = record {
     checked = h;
     within = zero-le;
-    nodes = p ∙ q;
+    nodes = p;
     counted = zero-le;
     left = left_start f network list;
     j = 0;

@@ -52,10 +52,9 @@ module _ (v : Verdict) where
     unfolding verdict_line
     demand_line e q = rw e q
 
-  pub refusal_line : (r : Refusal) (number wide : ℕ) → v ≡ Refused r → number ≡ number_of r.class → wide ≡ number
-      → line_bytes (Line-as-Refused wide r.place) ≡ verdict_line (answer_of v)
+  pub refusal_line : (r : Refusal) (l : Line) → v ≡ Refused r → l ≡ Line-as-Refused (number_of r.class) r.place → line_bytes l ≡ verdict_line (answer_of v)
   unfolding verdict_line line_bytes
-  refusal_line r number wide e n w = rw (e, w, n)
+  refusal_line r l e q = rw (e, q)
 
 pub ruleset verdict_lines = (pass_line_lem, due_line, promise_line, demand_line, refusal_line)
 

@@ -5,28 +5,23 @@ ghost use Rattle.judging.specs.Judging.{verdict_at};
 
 use crate::{Finding, Verdict};
 use boxes::{Fault, fault_at, first_wire, over_wire, own_box, wire_behind};
-use layout::NODES_FIELD;
-use nodes::is_own;
-use numbers::u16_at;
 use preparing::Lookup;
 
 // The first fault by rising id, or a pass. Wires stand by their to end, which is an own box, so that those into a box are the
 // next ones: where the next wire leads elsewhere the box is due what it has, and is judged.
 pub fn search(lookup: &Lookup<'_, '_>) -> Verdict
-    ensures { answer_of result ≡ verdict_at lookup.now.proposal.form lookup.now.proposal.network.now lookup.now.proposal.list.now }
+    ensures { answer_of result ≡ verdict_at lookup.now.proposal.network.form lookup.now.proposal.network.bytes.now lookup.now.proposal.list.now }
 {
     let proposal = &lookup.proposal;
-    let form = proposal.form;
-    let network = proposal.network;
-    let n = usize::from(u16_at(network, NODES_FIELD));
+    let network = &proposal.network;
     let mut count: usize = 0;
-    let mut wire = first_wire(form, network);
-    'nodes: for row in 0..n {
-        if !is_own(form, network, row) {
+    let mut wire = first_wire(network);
+    'nodes: for row in 0..network.node_count() {
+        if !network.is_own(row) {
             continue 'nodes;
         }
         count += 1;
-        let own = own_box(form, network, row);
+        let own = own_box(network, row);
         let node = own.node;
         let mut due = own.initial;
         loop {
@@ -47,7 +42,7 @@ pub fn search(lookup: &Lookup<'_, '_>) -> Verdict
                 }
             }
             due = over_wire(lookup, wire, due);
-            wire = wire_behind(form, network, wire);
+            wire = wire_behind(network, wire);
         }
     }
     Verdict::Pass(count)

@@ -46,10 +46,7 @@ pub fn verdict_line(verdict: Verdict) -> Line
         Verdict::NotDue(finding) => finding_line(31, finding),
         Verdict::PromiseBroken(finding) => finding_line(32, finding),
         Verdict::DemandUnmet(finding) => finding_line(33, finding),
-        Verdict::Refused(refusal) => {
-            let class = refusal.class;
-            Line::Refused(usize::from(u8::from(class)), refusal.place)
-        },
+        Verdict::Refused(refusal) => Line::from(refusal),
     }
 }
 

@@ -30,7 +30,6 @@ use Rattle.layout.specs.declared.Refusal.{Refusal}
 use Rattle.layout.proofs.OneForm.{one_form}
 use Rattle.nodes.specs.Node.{row_of, is_own}
 use Rattle.records.specs.Edge.{boxed, owned}
-use Rattle.records.specs.Rows.{Tabled}
 use Rattle.reading.specs.House.{house}
 use Rattle.reading.specs.Whole.{read_network, read_list}
 use Rattle.reading.proofs.Said.{owns_read}
@@ -43,7 +42,6 @@ use Rattle.lines.proofs.Answers.{bound_over, bound_kept}
 use Rattle.lines.proofs.Splits.{rest_lent, rest_named}
 use Rattle.preparing.specs.Prepared.{Prepared, prepare_refusal}
 use Rattle.preparing.proofs.GivenLaws.{given_form}
-use Rattle.preparing.proofs.PreparedLaws.{prepared_room, prepared_filled}
 use Rattle.judging.specs.Answers.{answer_of}
 use Rattle.judging.specs.Judging.{verdict_at}
 use Rattle.judging.specs.Text.{verdict_line, naming_bound}
@@ -83,13 +81,6 @@ unfolding owned
 owned_boxed f network id o = and_l (boxed f network id) (is_own f network (row_of f network id)) o
 
 pub ruleset trails = (owned_boxed, trail_room, put_short, roomy_count, roomy_placed)
-
--- the tables by which an own box is known
-pub shown_tabled : (f : Form) (network list rows stands : List ℕ) → Prepared f network list rows stands → Tabled f network rows
-shown_tabled f network list rows stands h = record {
-  room = prepared_room f network list rows stands h;
-  filled = prepared_filled f network list rows stands h;
-}
 
 -- by whether the box is an own one, and by the verdict
 module _ (f : Form) (network list : List ℕ) (id : ℕ) (t : Bool) (o : t ≡ owned f network id) where
@@ -137,7 +128,7 @@ module _ (f : Form) (network list : List ℕ) (id : ℕ) (t : Bool) (o : t ≡ o
       unfolding output_at shown_at
       line_told = m ∙ alone ∙ ap (λ (a : Answer (Judged Route)). shown_text (after a)) h
 
-pub ruleset showings = (shown_tabled, none_told, owned_told, pass_told, trail_told, line_told)
+pub ruleset showings = (none_told, owned_told, pass_told, trail_told, line_told)
 
 -- by what is refused before
 module _ (network list : List ℕ) (id : ℕ) (c : Result Form Refusal) (h : check_answer c ≡ prepare_refusal network list) where

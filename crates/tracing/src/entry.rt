@@ -10,7 +10,6 @@ use judging::{Verdict, longest_naming, search, verdict_line};
 use layout::{Class, ROWS, Refusal};
 use lines::{LONGEST_BOX_LINE, Line, first_length, named_id, named_length, place_line};
 use preparing::{Lookup, prepare};
-use records::is_owned;
 
 // Room enough for every trail: the line of each own box, and of an input.
 pub const LONGEST_TRAIL: usize = LONGEST_BOX_LINE * (ROWS + 1);
@@ -25,11 +24,11 @@ pub fn longest_trail() -> usize
 // Places the trail of a box at the start of out where it fits, and answers its length. A room in which every trail fits is not measured
 // first, which would walk it twice.
 fn place_trail(lookup: &Lookup<'_, '_>, id: u16, out: &mut [u8]) -> usize
-    requires passing { Passing lookup.now.proposal.form lookup.now.proposal.network.now lookup.now.proposal.list.now }
-    requires id_value { owned lookup.now.proposal.form lookup.now.proposal.network.now id ≡ true }
-    ensures count { result ≡ length (trail_from lookup.now.proposal.form lookup.now.proposal.network.now lookup.now.proposal.list.now id) }
+    requires passing { Passing lookup.now.proposal.network.form lookup.now.proposal.network.bytes.now lookup.now.proposal.list.now }
+    requires id_value { owned lookup.now.proposal.network.form lookup.now.proposal.network.bytes.now id ≡ true }
+    ensures count { result ≡ length (trail_from lookup.now.proposal.network.form lookup.now.proposal.network.bytes.now lookup.now.proposal.list.now id) }
     ensures short { result ≤ longest_trail }
-    ensures text { out.new ≡ placed (trail_from lookup.now.proposal.form lookup.now.proposal.network.now lookup.now.proposal.list.now id) out.old }
+    ensures text { out.new ≡ placed (trail_from lookup.now.proposal.network.form lookup.now.proposal.network.bytes.now lookup.now.proposal.list.now id) out.old }
 {
     if longest_trail() <= out.len() {
         return put_trail(lookup, id, out, 0);
@@ -43,12 +42,11 @@ fn place_trail(lookup: &Lookup<'_, '_>, id: u16, out: &mut [u8]) -> usize
 
 // Places what is shown of a box by a list that judging does not refuse: 18 comes before a finding.
 fn place_shown(lookup: &Lookup<'_, '_>, id: u16, out: &mut [u8]) -> usize
-    ensures count { result ≡ length (output_at lookup.now.proposal.form lookup.now.proposal.network.now lookup.now.proposal.list.now id) }
+    ensures count { result ≡ length (output_at lookup.now.proposal.network.form lookup.now.proposal.network.bytes.now lookup.now.proposal.list.now id) }
     ensures short { result ≤ longest_trail }
-    ensures text { out.new ≡ placed (output_at lookup.now.proposal.form lookup.now.proposal.network.now lookup.now.proposal.list.now id) out.old }
+    ensures text { out.new ≡ placed (output_at lookup.now.proposal.network.form lookup.now.proposal.network.bytes.now lookup.now.proposal.list.now id) out.old }
 {
-    let proposal = &lookup.proposal;
-    if !is_owned(proposal.form, proposal.network, lookup.rows, id) {
+    if !lookup.table().is_owned(id) {
         let refusal = Refusal {
             class: Class::NoSuchOwn,
             place: usize::from(id),

@@ -6,8 +6,5 @@ use Rattle.boxes.proofs.own.fault_at.Goals as goal
 pub route_at-held-requires : goal.route_at-held-requires
 route_at-held-requires c = search (rules, held_faults)
 
-pub fault_of-requires : goal.fault_of-requires
-fault_of-requires c = search (rules, held_faults)
-
 pub returns : goal.returns
 returns c = search (rules, held_faults)

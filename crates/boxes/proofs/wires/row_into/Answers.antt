@@ -15,8 +15,8 @@ overflow_add-mid c = omega arith
 pub stride-requires : goal.stride-requires
 stride-requires c = (search rules, search rules, let within = c.loop-lo.invariant.high in omega arith)
 
-pub u16_at-requires-in-loop-lo : goal.u16_at-requires-in-loop-lo
-u16_at-requires-in-loop-lo c = search halving
+pub u16_at-requires : goal.u16_at-requires
+u16_at-requires c = search halving
 
 pub overflow_add-lo : goal.overflow_add-lo
 overflow_add-lo c = omega arith

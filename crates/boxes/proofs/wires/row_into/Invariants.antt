@@ -5,7 +5,7 @@ use Prim.Native.Nat.{◌-◌}
 use Rattle.boxes.proofs.wires.row_into.Given as goal
 
 abbrev pub invariant-loop-lo : goal.invariant-loop-lo
-invariant-loop-lo l = Around (to_at l.network l.base) l.initial.hi l.id l.lo l.hi
+invariant-loop-lo l = Around (to_at l.network.bytes.now l.base) l.initial.hi l.id l.lo l.hi
 
 abbrev pub decreases-loop-lo : goal.decreases-loop-lo
 decreases-loop-lo l = l.hi - l.lo

@@ -3,9 +3,6 @@ use Rattle.counting.proofs.CountLaws.{asking_none}
 use borrow.Author.Rules.{rules}
 use Rattle.counting.proofs.counts.asks_none.Goals as goal
 
-pub demand_at-requires : goal.demand_at-requires
-demand_at-requires c = search (rules, asking_none)
-
 pub returns-in-HoldNone : goal.returns-in-HoldNone
 returns-in-HoldNone c = search (rules, asking_none)
 

@@ -3,9 +3,6 @@ use Rattle.counting.proofs.CountLaws.{asking_routes}
 use borrow.Author.Rules.{rules}
 use Rattle.counting.proofs.counts.asks_route.Goals as goal
 
-pub demand_at-requires : goal.demand_at-requires
-demand_at-requires c = search (rules, asking_routes)
-
 pub returns-in-Hold : goal.returns-in-Hold
 returns-in-Hold c = search (rules, asking_routes)
 

@@ -3,14 +3,8 @@ use Rattle.counting.proofs.CountLaws.{carrying}
 use borrow.Author.Rules.{rules}
 use Rattle.counting.proofs.counts.carries.Goals as goal
 
-pub row_part-requires : goal.row_part-requires
-row_part-requires c = search (rules, carrying)
-
 pub route_at-requires : goal.route_at-requires
 route_at-requires c = search (rules, carrying)
-
-pub is_route-requires : goal.is_route-requires
-is_route-requires c = search (rules, carrying)
 
 pub returns : goal.returns
 returns c = search (rules, carrying)

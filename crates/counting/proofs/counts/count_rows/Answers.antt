@@ -2,14 +2,8 @@ use Rattle.counting.proofs.CountLaws.{countings}
 use borrow.Author.Rules.{rules}
 use Rattle.counting.proofs.counts.count_rows.Goals as goal
 
-pub u16_at-requires : goal.u16_at-requires
-u16_at-requires c = search (rules, countings)
-
 pub loop-i-init : goal.loop-i-init
 loop-i-init c = search (rules, countings)
-
-pub is_counted-requires : goal.is_counted-requires
-is_counted-requires c = search (rules, countings)
 
 pub overflow_add-counted : goal.overflow_add-counted
 overflow_add-counted c = search (rules, countings)

@@ -3,4 +3,4 @@ use Rattle.counting.proofs.CountLaws.{Counting}
 use Rattle.counting.proofs.counts.count_rows.Given as goal
 
 abbrev pub invariant-loop-i : goal.invariant-loop-i
-invariant-loop-i l = Counting l.proposal.form l.proposal.network.now l.proposal.list.now l.what l.n l.i l.counted
+invariant-loop-i l = Counting l.proposal.network.form l.proposal.network.bytes.now l.proposal.list.now l.what l.i-end l.i l.counted

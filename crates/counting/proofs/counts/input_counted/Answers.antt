@@ -3,9 +3,6 @@ use Rattle.counting.proofs.CountLaws.{assuming}
 use borrow.Author.Rules.{rules}
 use Rattle.counting.proofs.counts.input_counted.Goals as goal
 
-pub carries-requires : goal.carries-requires
-carries-requires c = search (rules, assuming)
-
 pub returns-in-Holding : goal.returns-in-Holding
 returns-in-Holding c = search (rules, assuming)
 

@@ -3,9 +3,6 @@ use Rattle.counting.proofs.CountLaws.{rowing}
 use borrow.Author.Rules.{rules}
 use Rattle.counting.proofs.counts.is_counted.Goals as goal
 
-pub is_own-requires : goal.is_own-requires
-is_own-requires c = search (rules, rowing)
-
 pub own_counted-requires : goal.own_counted-requires
 own_counted-requires c = (search rules, search rowing)
 

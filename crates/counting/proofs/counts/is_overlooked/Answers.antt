@@ -1,16 +1,10 @@
 -- A box that holds a route is not overlooked; one that holds none is, unless its demand asks for that.
-use Rattle.counting.proofs.CountLaws.{offsets, overlooking}
+use Rattle.counting.proofs.CountLaws.{overlooking}
 use borrow.Author.Rules.{rules}
 use Rattle.counting.proofs.counts.is_overlooked.Goals as goal
 
-pub carries-requires : goal.carries-requires
-carries-requires c = search (rules, overlooking)
-
 pub returns-else-not-carries : goal.returns-else-not-carries
 returns-else-not-carries c = search (rules, overlooking)
-
-pub node_offset-requires : goal.node_offset-requires
-node_offset-requires c = (search offsets, search offsets, search offsets)
 
 pub asks_none-requires : goal.asks_none-requires
 asks_none-requires c = search (rules, overlooking)

@@ -1,13 +1,7 @@
 -- One law for each count.
-use Rattle.counting.proofs.CountLaws.{offsets, owning}
+use Rattle.counting.proofs.CountLaws.{owning}
 use borrow.Author.Rules.{rules}
 use Rattle.counting.proofs.counts.own_counted.Goals as goal
-
-pub node_offset-at-requires : goal.node_offset-at-requires
-node_offset-at-requires c = (search offsets, search offsets, search offsets)
-
-pub carries-requires : goal.carries-requires
-carries-requires c = search (rules, owning)
 
 pub promising_at-requires : goal.promising_at-requires
 promising_at-requires c = search (rules, owning)
@@ -17,9 +11,6 @@ promises_route-requires c = search (rules, owning)
 
 pub asks_route-requires : goal.asks_route-requires
 asks_route-requires c = search (rules, owning)
-
-pub is_overlooked-requires : goal.is_overlooked-requires
-is_overlooked-requires c = search (rules, owning)
 
 pub returns-in-Holding : goal.returns-in-Holding
 returns-in-Holding c = search (rules, owning)

@@ -3,14 +3,8 @@ use Rattle.counting.proofs.CountLaws.{promising_routes}
 use borrow.Author.Rules.{rules}
 use Rattle.counting.proofs.counts.promises_route.Goals as goal
 
-pub promising_at-requires : goal.promising_at-requires
-promising_at-requires c = search (rules, promising_routes)
-
 pub route_at-requires : goal.route_at-requires
 route_at-requires c = search (rules, promising_routes)
-
-pub is_route-requires : goal.is_route-requires
-is_route-requires c = search (rules, promising_routes)
 
 pub returns-then-promising_at : goal.returns-then-promising_at
 returns-then-promising_at c = search (rules, promising_routes)

@@ -3,14 +3,8 @@ use Rattle.counting.proofs.LineLaws.{silencing}
 use borrow.Author.Rules.{rules}
 use Rattle.counting.proofs.text.put_silent.Goals as goal
 
-pub is_counted-requires : goal.is_counted-requires
-is_counted-requires c = search (rules, silencing)
-
 pub returns-then-not-is_counted : goal.returns-then-not-is_counted
 returns-then-not-is_counted c = search (rules, silencing)
-
-pub node_id-requires : goal.node_id-requires
-node_id-requires c = search (rules, silencing)
 
 pub put_name-requires : goal.put_name-requires
 put_name-requires c = search (rules, silencing)

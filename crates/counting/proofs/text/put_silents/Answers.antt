@@ -2,9 +2,6 @@ use Rattle.counting.proofs.LineLaws.{silences}
 use borrow.Author.Rules.{rules}
 use Rattle.counting.proofs.text.put_silents.Goals as goal
 
-pub u16_at-requires : goal.u16_at-requires
-u16_at-requires c = search (rules, silences)
-
 pub loop-i-init : goal.loop-i-init
 loop-i-init c = search (rules, silences)
 

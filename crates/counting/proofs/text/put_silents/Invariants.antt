@@ -3,4 +3,4 @@ use Rattle.counting.proofs.LineLaws.{Silences}
 use Rattle.counting.proofs.text.put_silents.Given as goal
 
 abbrev pub invariant-loop-i : goal.invariant-loop-i
-invariant-loop-i l = Silences l.proposal.form l.proposal.network.now l.proposal.list.now l.initial.room l.room l.n l.at l.next l.i
+invariant-loop-i l = Silences l.proposal.network.form l.proposal.network.bytes.now l.proposal.list.now l.initial.room l.room l.i-end l.at l.next l.i

@@ -1,10 +1,7 @@
-use Rattle.judging.proofs.SearchLaws.{searching, wiring}
+use Rattle.judging.proofs.SearchLaws.{searching, wiring, wiring_wire}
 use Rattle.preparing.proofs.PreparedLaws.{prepared}
 use borrow.Author.Rules.{rules}
 use Rattle.judging.proofs.first_fault.search.Goals as goal
-
-pub u16_at-requires : goal.u16_at-requires
-u16_at-requires c = search (rules, prepared)
 
 pub first_wire-wire-requires : goal.first_wire-wire-requires
 first_wire-wire-requires c = search (rules, prepared)
@@ -12,17 +9,11 @@ first_wire-wire-requires c = search (rules, prepared)
 pub nodes-init : goal.nodes-init
 nodes-init c = search (rules, searching, wiring, prepared)
 
-pub is_own-requires : goal.is_own-requires
-is_own-requires c = search (rules, searching, prepared)
-
 pub nodes-preserved-then-not-is_own : goal.nodes-preserved-then-not-is_own
 nodes-preserved-then-not-is_own c = search (rules, searching, wiring, prepared)
 
 pub overflow_add-count : goal.overflow_add-count
-overflow_add-count c = search (rules, searching, wiring, prepared)
-
-pub own_box-own-requires : goal.own_box-own-requires
-own_box-own-requires c = search (rules, searching, wiring, prepared)
+overflow_add-count c = search (rules, searching)
 
 pub loop-due-init : goal.loop-due-init
 loop-due-init c = search (rules, searching, wiring, prepared)
@@ -40,10 +31,10 @@ pub returns-in-Demand : goal.returns-in-Demand
 returns-in-Demand c = search (rules, wiring)
 
 pub over_wire-due-requires : goal.over_wire-due-requires
-over_wire-due-requires c = search wiring
+over_wire-due-requires c = wiring_wire _ _ _ _ _ _ _ _ _ c.loop-due.invariant (search wiring)
 
 pub wire_behind-wire-requires : goal.wire_behind-wire-requires
-wire_behind-wire-requires c = (search (rules, prepared), search wiring)
+wire_behind-wire-requires c = (search (rules, prepared), wiring_wire _ _ _ _ _ _ _ _ _ c.loop-due.invariant (search wiring))
 
 pub loop-due-smaller : goal.loop-due-smaller
 loop-due-smaller c = search (rules, searching, wiring, prepared)

@@ -6,10 +6,10 @@ use lib.ListN.{length}
 use Rattle.judging.proofs.first_fault.search.Given as goal
 
 abbrev pub invariant-loop-due : goal.invariant-loop-due
-invariant-loop-due l = Wiring l.form l.network l.proposal.list.now l.n l.count l.row l.node l.due l.wire
+invariant-loop-due l = Wiring l.network.form l.network.bytes.now l.proposal.list.now l.row-end l.count l.row l.node l.due l.wire
 
 abbrev pub decreases-loop-due : goal.decreases-loop-due
-decreases-loop-due l = length l.network - l.wire.at
+decreases-loop-due l = length l.network.bytes.now - l.wire.at
 
 abbrev pub invariant-nodes : goal.invariant-nodes
-invariant-nodes l = Searching l.form l.network l.proposal.list.now l.n l.row l.count l.wire
+invariant-nodes l = Searching l.network.form l.network.bytes.now l.proposal.list.now l.row-end l.row l.count l.wire

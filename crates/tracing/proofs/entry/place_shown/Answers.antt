@@ -5,9 +5,6 @@ use Rattle.lines.proofs.Answers.{answering}
 use borrow.Author.Rules.{rules}
 use Rattle.tracing.proofs.entry.place_shown.Goals as goal
 
-pub is_owned-requires : goal.is_owned-requires
-is_owned-requires c = search (rules, showings, answering)
-
 pub verdict_line-requires : goal.verdict_line-requires
 verdict_line-requires c = search (rules, showings, answering)
 
@@ -18,7 +15,9 @@ pub shape_of-out-then-not-is_owned : goal.shape_of-out-then-not-is_owned
 shape_of-out-then-not-is_owned c = search (rules, showings, answering)
 
 pub returns-then-not-is_owned : goal.returns-then-not-is_owned
-returns-then-not-is_owned c = record { count = search (answering, showings); short = search line_short; text = search (answering, showings) }
+returns-then-not-is_owned c =
+    let own = rw (c.table.ensures.form, c.table.ensures.network) at c.is_owned.ensures in
+    record { count = search (answering, showings, own); short = search line_short; text = search (answering, showings, own) }
 
 pub search-verdict-requires : goal.search-verdict-requires
 search-verdict-requires c = search (rules, showings, answering)
@@ -37,14 +36,19 @@ shape_of-out-in_default c = search (rules, showings, answering)
 
 pub returns-in_default : goal.returns-in_default
 returns-in_default c =
+    let own = rw (c.table.ensures.form, c.table.ensures.network) at c.is_owned.ensures in
     let not_pass = c.in_default.not-Pass in
-    record { count = search (answering, showings, not_pass); short = search line_short; text = search (answering, showings, not_pass) }
+    record { count = search (answering, showings, not_pass, own); short = search line_short; text = search (answering, showings, not_pass, own) }
 
 pub place_trail-requires : goal.place_trail-requires
-place_trail-requires c = search (rules, showings, answering)
+place_trail-requires c =
+    let own = rw (c.table.ensures.form, c.table.ensures.network) at c.is_owned.ensures in
+    record { passing = search showings; id_value = search (showings, own) }
 
 pub shape_of-out : goal.shape_of-out
 shape_of-out c = search (rules, showings, answering)
 
 pub returns : goal.returns
-returns c = record { count = search (answering, showings); short = search rules; text = search (answering, showings) }
+returns c =
+    let own = rw (c.table.ensures.form, c.table.ensures.network) at c.is_owned.ensures in
+    record { count = search (answering, showings, own); short = search rules; text = search (answering, showings, own) }

@@ -7,23 +7,23 @@ use Rattle.tracing.proofs.senders.sender.Goals as goal
 pub row_in-row-requires : goal.row_in-row-requires
 row_in-row-requires c = search (rules, senders, prepared)
 
-pub is_own-requires : goal.is_own-requires
-is_own-requires c = search (rules, senders, prepared)
-
 pub returns-then-not-is_own : goal.returns-then-not-is_own
-returns-then-not-is_own c = search senders
-
-pub own_box-own-requires : goal.own_box-own-requires
-own_box-own-requires c = search (rules, senders, prepared)
+returns-then-not-is_own c =
+    let row = rw (c.table.ensures.form, c.table.ensures.network) at c.row_in-row.ensures.is in
+    search (senders, row)
 
 pub same-requires : goal.same-requires
 same-requires c = search (rules, senders, prepared)
 
 pub returns-then-same : goal.returns-then-same
-returns-then-same c = search senders
+returns-then-same c =
+    let row = rw (c.table.ensures.form, c.table.ensures.network) at c.row_in-row.ensures.is in
+    search (senders, row)
 
 pub supplier-requires : goal.supplier-requires
 supplier-requires c = search (rules, senders, prepared)
 
 pub returns : goal.returns
-returns c = search senders
+returns c =
+    let row = rw (c.table.ensures.form, c.table.ensures.network) at c.row_in-row.ensures.is in
+    search (senders, row)

@@ -5,7 +5,7 @@ use lib.ListN.{length}
 use Rattle.tracing.proofs.senders.supplier.Given as goal
 
 abbrev pub invariant-loop-network : goal.invariant-loop-network
-invariant-loop-network l = Supplying l.form l.network l.lookup.proposal.list.now l.id l.route l.wire
+invariant-loop-network l = Supplying l.network.form l.network.bytes.now l.lookup.proposal.list.now l.id l.route l.wire
 
 abbrev pub decreases-loop-network : goal.decreases-loop-network
-decreases-loop-network l = length l.network - l.wire.at
+decreases-loop-network l = length l.network.bytes.now - l.wire.at

@@ -4,4 +4,4 @@ use Rattle.tracing.specs.Tracing.{mapping_in}
 use Rattle.tracing.proofs.walk.+put_trail.Given as goal
 
 abbrev pub decreases-put_trail : goal.decreases-put_trail
-decreases-put_trail l = cost_of (mapping_in l.lookup.now.proposal.form l.lookup.now.proposal.network.now l.lookup.now.proposal.list.now l.id)
+decreases-put_trail l = cost_of (mapping_in l.lookup.now.proposal.network.form l.lookup.now.proposal.network.bytes.now l.lookup.now.proposal.list.now l.id)
