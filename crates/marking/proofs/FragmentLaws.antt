@@ -23,7 +23,7 @@ use Rattle.networks.specs.Network.{Own}
 use Rattle.networks.specs.Sheets.{number, note}
 use Rattle.records.specs.Checked.{CheckedNetwork, CheckedEntries}
 use Rattle.records.specs.Entered.{entry_in, entered, EntryRows}
-use Rattle.layout.specs.Layout.{entry_count, entry_offset, node_count}
+use Rattle.layout.specs.Layout.{Room, entry_count, entry_offset, node_count}
 use Rattle.layout.specs.Form.{sheet_lead}
 use Rattle.nodes.specs.Node.{node_id, is_own}
 use Rattle.layout.proofs.Places.{entry_room}
@@ -59,8 +59,8 @@ module _ (f : Form) (network sheet : List ℕ) (i : ℕ) (t : Bool) (e : t ≡ i
       unfolding row_fragment
       own_fragment = rw (ours, number_there f sheet (node_id f network i) (rw (← entry_is) there), ← entry_is, a)
 
-pub row_small : (f : Form) (network : List ℕ) (i : ℕ) → CheckedNetwork f network → i < node_count network → i < 1024
-row_small f network i c l = let r = c.room.few in let u = c.room.usable.few in omega arith
+pub row_small : (f : Form) (network : List ℕ) (i : ℕ) → Room f network → i < node_count network → i < 1024
+row_small f network i r l = let few = r.few in let most = r.usable.few in omega arith
 
 pub entry_low : (entry : ℕ) → entry < 65536 → entry ≤ 65535
 entry_low entry l = omega arith
@@ -81,8 +81,8 @@ module _ (f : Form) (network sheet : List ℕ) (n : ℕ) (fragments₀ : List �
     pub numbering_row : i < n → n ≡ node_count network → i < node_count network
     numbering_row l e = omega arith
 
-    pub numbering_index : i < n → n ≡ node_count network → CheckedNetwork f network → i < 1024
-    numbering_index l e c = row_small f network i c (omega arith)
+    pub numbering_index : i < n → n ≡ node_count network → Room f network → i < 1024
+    numbering_index l e r = row_small f network i r (omega arith)
 
     pub numbering_next : (v : ℕ) → i < n → v ≡ row_fragment f network sheet i → Numbering f network sheet n (i + 1) fragments₀ (set fragments i v)
     unfolding with_fragment

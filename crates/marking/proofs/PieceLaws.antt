@@ -22,7 +22,7 @@ use Rattle.routes.specs.declared.Route.{Route}
 use Rattle.networks.specs.Cut.{leaves, feeds, only, promised}
 use Rattle.networks.specs.Network.{Box, own}
 use Rattle.networks.specs.Sheets.{number, note}
-use Rattle.layout.specs.Layout.{node_count, node_offset}
+use Rattle.layout.specs.Layout.{Room, node_count, node_offset}
 use Rattle.nodes.specs.Node.{node_id, is_own, promising}
 use Rattle.layout.specs.declared.Form.{Form}
 use Rattle.reading.specs.Whole.{HouseNetwork, HouseSheet, read_network, read_sheet}
@@ -174,8 +174,8 @@ module _ (f : Form) (network sheet : List ℕ) (k n : ℕ) (pieces₀ : List Kep
     pub classifying_table : n ≤ i → pieces ≡ table_after (with_piece f network sheet k) n pieces₀
     classifying_table l = rw (← done l) s.filled
 
-    pub classifying_index : i < n → n ≡ node_count network → CheckedNetwork f network → i < 1024
-    classifying_index l e c = row_small f network i c (omega arith)
+    pub classifying_index : i < n → n ≡ node_count network → Room f network → i < 1024
+    classifying_index l e r = row_small f network i r (omega arith)
 
     module _ (l : i < n) (e : n ≡ node_count network) (found : List ℕ) (h : EntryRows f sheet_lead network sheet found)
         (piece : Kept) (p : piece ≡ kept_in f network sheet k i) (t : Bool) (q : t ≡ some_kept piece) (one : ℕ) (o : one ≡ bool_byte t) where
