@@ -11,7 +11,7 @@ use crate::tables::Wires;
 use layout::{EDGE_WIDTH, ROWS};
 use numbers::u16_at;
 
-impl Wires<'_> {
+impl Wires<'_, '_> {
     ghost use Rattle.marking.specs.Fragments.{crossing, entering};
 
     // The row of the node whose id stands at an offset.

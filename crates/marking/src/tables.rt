@@ -32,8 +32,8 @@ pub struct Fragment<'a> {
 
 // The wires of a network beside fragment k, whatever numbers its rows have: the row of each id says where a wire's ends are.
 #[derive(Clone, Copy)]
-pub struct Wires<'a> {
-    pub table: TabledNetwork<'a, 'a>,
+pub struct Wires<'a, 't> {
+    pub table: TabledNetwork<'a, 't>,
     pub fragments: &'a [u8; ROWS],
     pub k: u8,
     pub ghost checked: { CheckedNetwork table.network.form table.network.bytes.now } by { network_once _ _ },
