@@ -8,7 +8,7 @@ use Rattle.cutting.proofs.entry.cut_agreed.Goals as goal
 
 pub lay-size-requires : goal.lay-size-requires
 lay-size-requires c =
-    let rows : c.from-n.result ≡ node_count c.args.fragment.entered.network.now = search rules in
+    let rows : c.node_count-n.result ≡ node_count c.args.fragment.entered.network.bytes.now = search rules in
     record { tables = (search (tables_whole, rows), search rules); nodes_value = search (tables_whole, rows); edges_value = search rules }
 
 pub returns : goal.returns

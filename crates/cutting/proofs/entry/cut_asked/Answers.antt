@@ -8,7 +8,7 @@ use Rattle.cutting.proofs.entry.cut_asked.Goals as goal
 
 pub first_clash-clash-requires : goal.first_clash-clash-requires
 first_clash-clash-requires c =
-    let edges : c.from-m.result ≡ edge_count c.args.fragment.entered.network.now = search rules in
+    let edges : c.edge_count-m.result ≡ edge_count c.args.fragment.entered.network.bytes.now = search rules in
     (search rules, search (tables_whole, edges))
 
 pub returns-then-clash-n : goal.returns-then-clash-n
@@ -16,7 +16,7 @@ returns-then-clash-n c = record { answer = search (rules, cutting_19); buffer = 
 
 pub cut_agreed-requires : goal.cut_agreed-requires
 cut_agreed-requires c =
-    let edges : c.from-m.result ≡ edge_count c.args.fragment.entered.network.now = search rules in
+    let edges : c.edge_count-m.result ≡ edge_count c.args.fragment.entered.network.bytes.now = search rules in
     record { filled = search rules; edges_value = search (tables_whole, edges); leaving = (search (tables_whole, edges), search (tables_whole, edges)) }
 
 pub returns : goal.returns

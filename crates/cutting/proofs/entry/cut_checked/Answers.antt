@@ -8,20 +8,20 @@ use Rattle.cutting.proofs.entry.cut_checked.Goals as goal
 
 pub returns-then-missing-n : goal.returns-then-missing-n
 returns-then-missing-n c =
-    let rows : c.from-n.result ≡ node_count c.args.network.now = search rules in
+    let rows : c.node_count-n.result ≡ node_count c.args.network.bytes.now = search rules in
     record { answer = search (cutting_17, rows); buffer = search (cutting_17, rows) }
 
 pub invariant_of-entered : goal.invariant_of-entered
 invariant_of-entered c =
-    let rows : c.from-n.result ≡ node_count c.args.network.now = search rules in
+    let rows : c.node_count-n.result ≡ node_count c.args.network.bytes.now = search rules in
     record { checked = search rules; formed = search rules; noted = search (cutting_17, rows) }
 
 pub invariant_of-fragment : goal.invariant_of-fragment
 invariant_of-fragment c =
-    let rows : c.from-n.result ≡ node_count c.args.network.now = search rules in
+    let rows : c.node_count-n.result ≡ node_count c.args.network.bytes.now = search rules in
     record { numbered = search (fragments_numbered, rows, rules) }
 
 pub cut_entered-requires : goal.cut_entered-requires
 cut_entered-requires c =
-    let rows : c.from-n.result ≡ node_count c.args.network.now = search rules in
+    let rows : c.node_count-n.result ≡ node_count c.args.network.bytes.now = search rules in
     record { filled = search rules; entered = search (cutting_17, rows) }
