@@ -36,9 +36,8 @@ fn cut_agreed(
     ensures answer { outcome_of result ≡ in_room (length out.old) (length (record_of fragment.entry)) }
     ensures buffer { out.new ≡ placed (record_of fragment.entry) out.old }
 {
-    let n = fragment.entered.network.node_count();
     let mut pieces = [Kept::Nothing; ROWS];
-    let nodes = fragment.classify_rows(leaves, feeds, n, &mut pieces);
+    let nodes = fragment.classify_rows(leaves, feeds, &mut pieces);
     let room = out.len();
     let size = lay(fragment, rows, &pieces, nodes, edges, out);
     laid_in(room, size)
@@ -52,8 +51,6 @@ fn cut_asked(fragment: Fragment, rows: &[u16; 65536], out: &mut [u8]) -> Result<
     ensures buffer { out.new ≡ laid_answer fragment.entry.entered.network.form (said_of fragment.entry) out.old }
 {
     let network = fragment.entered.network;
-    let n = network.node_count();
-    let m = network.edge_count();
     let wires = Wires {
         table: TabledNetwork { network, rows },
         fragments: fragment.fragments,
@@ -61,9 +58,9 @@ fn cut_asked(fragment: Fragment, rows: &[u16; 65536], out: &mut [u8]) -> Result<
     };
     let mut leaves = [0; ROWS];
     let mut feeds = [0; ROWS];
-    let edges = wires.mark_wires(m, &mut leaves, &mut feeds);
-    let clash = fragment.entered.first_clash(&leaves, n);
-    if clash < n {
+    let edges = wires.mark_wires(&mut leaves, &mut feeds);
+    let clash = fragment.entered.first_clash(&leaves);
+    if clash < network.node_count() {
         return Err(network.refused_at(Class::NoteDiffers, clash));
     }
     cut_agreed(fragment, rows, &leaves, &feeds, edges, out)
@@ -78,8 +75,7 @@ fn cut_entered(fragment: Fragment, rows: &[u16; 65536], out: &mut [u8]) -> Resul
 {
     let network = fragment.entered.network;
     let k = fragment.k;
-    let n = network.node_count();
-    if first_inside(&network, fragment.fragments, k, n) == n {
+    if first_inside(&network, fragment.fragments, k) == network.node_count() {
         return Err(Refusal {
             class: Class::NoSuchOwn,
             place: usize::from(k),
@@ -100,7 +96,6 @@ fn cut_checked(
     ensures answer { outcome_of result ≡ record_answer network.entry.form (length out.old) (cut_said network.entry.form network.entry.bytes.now sheet.now k) }
     ensures buffer { out.new ≡ laid_answer network.entry.form (cut_said network.entry.form network.entry.bytes.now sheet.now k) out.old }
 {
-    let n = network.node_count();
     let noted = EntriesRecord {
         form: network.form,
         lead: SHEET_LEAD,
@@ -108,7 +103,7 @@ fn cut_checked(
     };
     let mut entries = [0; ROWS];
     let missing = place_entries(&network, &noted, &mut entries);
-    if missing < n {
+    if missing < network.node_count() {
         return Err(network.refused_at(Class::NoEntry, missing));
     }
     let entered = Entered {
@@ -117,7 +112,7 @@ fn cut_checked(
         entries: &entries,
     };
     let mut fragments = [0; ROWS];
-    entered.number_rows(n, &mut fragments);
+    entered.number_rows(&mut fragments);
     let fragment = Fragment {
         entered,
         fragments: &fragments,

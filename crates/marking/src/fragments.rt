@@ -22,11 +22,11 @@ impl Entered<'_> {
         self.sheet[entry_offset(self.network.form, SHEET_LEAD, entry) + 2]
     }
 
-    // Stores the fragment number of each of n rows.
-    pub fn number_rows(self, n: usize, fragments: &mut [u8; ROWS])
-        requires { n ≡ node_count self.network.bytes.now }
-        ensures { fragments.new ≡ table_after (with_fragment self.entry.network.form self.entry.network.bytes.now self.entry.sheet.now) n fragments.old }
+    // Stores the fragment number of each row.
+    pub fn number_rows(self, fragments: &mut [u8; ROWS])
+        ensures { fragments.new ≡ table_after (with_fragment self.entry.network.form self.entry.network.bytes.now self.entry.sheet.now) (node_count self.entry.network.bytes.now) fragments.old }
     {
+        let n = self.network.node_count();
         for i in 0..n {
             fragments[i] = self.fragment_of(i);
         }
@@ -41,11 +41,11 @@ fn is_outside(network: &NetworkRecord, fragments: &[u8; ROWS], k: u8, i: usize) 
     fragments[i] != k || !network.is_own(i)
 }
 
-// The first of n rows that is an own node of fragment k, or n.
-pub fn first_inside(network: &NetworkRecord, fragments: &[u8; ROWS], k: u8, n: usize) -> usize
-    requires { n ≡ node_count network.now.bytes.now }
-    ensures { result ≡ first_bad (outside network.now.form network.now.bytes.now fragments.now k) n }
+// The first row that is an own node of fragment k, or the number of rows.
+pub fn first_inside(network: &NetworkRecord, fragments: &[u8; ROWS], k: u8) -> usize
+    ensures { result ≡ first_bad (outside network.now.form network.now.bytes.now fragments.now k) (node_count network.now.bytes.now) }
 {
+    let n = network.node_count();
     for i in 0..n {
         if !is_outside(network, fragments, k, i) {
             return i;

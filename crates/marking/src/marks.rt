@@ -43,15 +43,16 @@ impl Wires<'_, '_> {
         to == self.k
     }
 
-    // Marks the rows that the n edges leave in both tables. Answers how many edges are the fragment's.
-    pub fn mark_wires(self, n: usize, leaves: &mut [u8; ROWS], feeds: &mut [u8; ROWS]) -> usize
-        requires { n ≡ edge_count self.table.network.bytes.now }
-        ensures kept { result ≡ count (entering self.entry) n }
-        ensures left { leaves.new ≡ table_after (marked_by self.entry.table.network.form self.entry.table.network.bytes.now (crossing self.entry)) n leaves.old }
-        ensures fed { feeds.new ≡ table_after (marked_by self.entry.table.network.form self.entry.table.network.bytes.now (entering self.entry)) n feeds.old }
+    // Marks the rows that the edges leave in both tables. Answers how many edges are the fragment's.
+    pub fn mark_wires(self, leaves: &mut [u8; ROWS], feeds: &mut [u8; ROWS]) -> usize
+        ensures kept { result ≡ count (entering self.entry) (edge_count self.entry.table.network.bytes.now) }
+        ensures left { leaves.new ≡ table_after (marked_by self.entry.table.network.form self.entry.table.network.bytes.now (crossing self.entry)) (edge_count self.entry.table.network.bytes.now) leaves.old }
+        ensures fed { feeds.new ≡ table_after (marked_by self.entry.table.network.form self.entry.table.network.bytes.now (entering self.entry)) (edge_count self.entry.table.network.bytes.now) feeds.old }
     {
+        let network = self.table.network;
+        let n = network.edge_count();
         let mut kept = 0;
-        let mut at = self.table.network.edge_offset(0);
+        let mut at = network.edge_offset(0);
         for j in 0..n {
             kept += usize::from(self.mark_wire(j, at, leaves, feeds));
             at += EDGE_WIDTH;

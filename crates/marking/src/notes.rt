@@ -46,11 +46,12 @@ impl Entered<'_> {
         )
     }
 
-    // The first of n rows that is an own node which a cut wire leaves and whose promise is not its note, or n.
-    pub fn first_clash(self, leaves: &[u8; ROWS], n: usize) -> usize
-        requires { (n ≡ node_count self.network.bytes.now) × LeavesOf self leaves.now }
-        ensures { result ≡ first_bad (unclashed self.entry.network.form self.entry.network.bytes.now self.entry.sheet.now) n }
+    // The first row that is an own node which a cut wire leaves and whose promise is not its note, or the number of rows.
+    pub fn first_clash(self, leaves: &[u8; ROWS]) -> usize
+        requires { LeavesOf self leaves.now }
+        ensures { result ≡ first_bad (unclashed self.entry.network.form self.entry.network.bytes.now self.entry.sheet.now) (node_count self.entry.network.bytes.now) }
     {
+        let n = self.network.node_count();
         for i in 0..n {
             if !self.keeps_promise(leaves, i) {
                 return i;

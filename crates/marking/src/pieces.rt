@@ -65,19 +65,18 @@ impl Fragment<'_> {
         Kept::Promised
     }
 
-    // Stores what the fragment keeps of each of n rows. Answers how many are kept.
+    // Stores what the fragment keeps of each row. Answers how many are kept.
     pub fn classify_rows(
         self,
         leaves: &[u8; ROWS],
         feeds: &[u8; ROWS],
-        n: usize,
         pieces: &mut [Kept; ROWS],
     ) -> usize
-        requires rows { n ≡ node_count self.entered.network.bytes.now }
-        requires leaving { LeavesOf self.entered leaves.now × FeedsOf self feeds.now }
-        ensures kept { result ≡ count (kept_of self.entry) n }
-        ensures classified { pieces.new ≡ table_after (keeping self.entry) n pieces.old }
+        requires { LeavesOf self.entered leaves.now × FeedsOf self feeds.now }
+        ensures kept { result ≡ count (kept_of self.entry) (node_count self.entry.entered.network.bytes.now) }
+        ensures classified { pieces.new ≡ table_after (keeping self.entry) (node_count self.entry.entered.network.bytes.now) pieces.old }
     {
+        let n = self.entered.network.node_count();
         let mut kept = 0;
         for i in 0..n {
             let piece = self.piece_of(leaves, feeds, i);
