@@ -128,14 +128,11 @@ module _ (f : Form) (network sheet : List ℕ) (k : ℕ) where
         all_entered = none_missing
 
     -- no own node with the number asked, or one
-    module _ (h : AllEntered f network sheet) (fragments : List ℕ) (m : Numbered f network sheet fragments) (asked : ℕ) (q : asked ≡ first_bad (outside f network fragments k) n) where
-      at_asked : asked ≡ first_bad (outside f network fragments k) (node_count network)
-      at_asked = rw (← e) q
-
+    module _ (h : AllEntered f network sheet) (fragments : List ℕ) (m : Numbered f network sheet fragments) (asked : ℕ) (q : asked ≡ first_bad (outside f network fragments k) (node_count network)) where
       module _ (z : asked ≡ n) where
         said_18 : cut_said f network sheet k ≡ refused 18 k
         unfolding cut_said cut AllEntered
-        said_18 = rw (h, asked_is fragments m, ← at_asked, eq-eqb asked (node_count network) (z ∙ e))
+        said_18 = rw (h, asked_is fragments m, ← q, eq-eqb asked (node_count network) (z ∙ e))
 
         pub answer_18 : (room place : ℕ) → place ≡ k → refused 18 place ≡ record_answer f room (cut_said f network sheet k)
         answer_18 room place p = rw (said_18, p)
@@ -145,17 +142,14 @@ module _ (f : Form) (network sheet : List ℕ) (k : ℕ) where
 
       pub one_asked : (asked ≡ n → ⊥) → Asked f network sheet k
       unfolding Asked
-      one_asked z = asked_is fragments m ∙ rw (← at_asked, ne_eqb asked (node_count network) (λ y. z (y ∙ sym e)))
+      one_asked z = asked_is fragments m ∙ rw (← q, ne_eqb asked (node_count network) (λ y. z (y ∙ sym e)))
 
     -- a row whose promise is not its note, or none
-    module _ (h : AllEntered f network sheet) (a : Asked f network sheet k) (clash : ℕ) (q : clash ≡ first_bad (unclashed f network sheet) n) where
-      at_clash : clash ≡ first_bad (unclashed f network sheet) (node_count network)
-      at_clash = rw (← e) q
-
+    module _ (h : AllEntered f network sheet) (a : Asked f network sheet k) (clash : ℕ) (q : clash ≡ first_bad (unclashed f network sheet) (node_count network)) where
       module _ (l : clash < n) (r : Refusal) (d : r ≡ record { class = NoteDiffers; place = node_id f network clash }) where
         said_19 : cut_said f network sheet k ≡ refusing r
         unfolding cut_said cut AllEntered Asked
-        said_19 = rw (h, a, clash_is, ← at_clash, lt-ltb clash (node_count network) (omega arith), d)
+        said_19 = rw (h, a, clash_is, ← q, lt-ltb clash (node_count network) (omega arith), d)
 
         pub answer_19 : (room : ℕ) → refusing r ≡ record_answer f room (cut_said f network sheet k)
         answer_19 room = rw said_19
@@ -169,7 +163,7 @@ module _ (f : Form) (network sheet : List ℕ) (k : ℕ) where
       module _ (l : n ≤ clash) where
         said_cut : cut_said f network sheet k ≡ given (fragment_in f network sheet k)
         unfolding cut_said cut fragment_in AllEntered Asked
-        said_cut = rw (h, a, clash_is, ← at_clash, le-ltb clash (node_count network) (omega arith))
+        said_cut = rw (h, a, clash_is, ← q, le-ltb clash (node_count network) (omega arith))
 
         pub answer_cut : (room : ℕ) (r : Answer ℕ) → r ≡ in_room room (length (write_network f (fragment_in f network sheet k))) → r ≡ record_answer f room (cut_said f network sheet k)
         answer_cut room r p = rw said_cut p

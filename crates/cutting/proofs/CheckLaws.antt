@@ -1,16 +1,14 @@
 -- What the checks of the two records leave, and the tables of all rows.
 --     checking                           the refusals of the two records
---     tables_whole                       tables whose counts are the records' own
+--     tables_whole                       the marks of all edges, and what is kept of all rows
 use Prim.Native.Nat.{ℕ}
 use mathlib.Core.List.{List}
 use mathlib.Core.Path.{◌≡◌, sym, ap, ◌∙◌}
 use native.Mathlib.Omega.{arith}
 use Rattle.records.specs.Checked.{CheckedEntries}
 use Rattle.lists.specs.Bytes.{Bytes}
-use Rattle.lists.specs.Gather.{count}
 use Rattle.lists.specs.Answer.{Answer}
 use Rattle.entries.specs.Entries.{sheet_refusal, WellFormed}
-use Rattle.layout.specs.Layout.{node_count, edge_count}
 use Rattle.records.specs.Network.{network_refusal, SoundRecord}
 use Rattle.layout.specs.Refusals.{check_answer, refusing}
 use Rattle.std.specs.Prelude.{Result, Ok, Err}
@@ -18,8 +16,6 @@ use Rattle.layout.specs.declared.Form.{Form}
 use Rattle.layout.specs.declared.Refusal.{Refusal}
 use Rattle.outcomes.specs.Room.{record_answer, laid_answer}
 use Rattle.cutting.specs.Cutting.{cut_said, cut_network, cut_records, cut_buffer}
-use Rattle.marking.specs.Marks.{reaches}
-use Rattle.marking.specs.Pieces.{keeps}
 use Rattle.marking.proofs.MarkSaid.{leaving, feeding}
 use Rattle.marking.proofs.PieceLaws.{pieces_made}
 use Rattle.records.proofs.Checked.{network_told, entries_told, one_told, together_checked}
@@ -81,12 +77,4 @@ sheet_checked network sheet c h d k small f e g q = together_checked c d f g e q
 pub ruleset checking = (network_refused, network_kept, sheet_refused, sheet_kept, records_cut, records_laid)
 
 -- all edges are marked, and all rows classified
-pub wires_counted : (f : Form) (network fragments : List ℕ) (k m wires : ℕ) → m ≡ edge_count network → wires ≡ count (reaches f network fragments k) m
-    → wires ≡ count (reaches f network fragments k) (edge_count network)
-wires_counted f network fragments k m wires e h = rw (← e) h
-
-module _ (f : Form) (network sheet : List ℕ) (k n : ℕ) (e : n ≡ node_count network) where
-  pub nodes_counted : (kept : ℕ) → kept ≡ count (keeps f network sheet k) n → kept ≡ count (keeps f network sheet k) (node_count network)
-  nodes_counted kept h = rw (← e) h
-
-pub ruleset tables_whole = (leaving, feeding, wires_counted, nodes_counted, pieces_made)
+pub ruleset tables_whole = (leaving, feeding, pieces_made)

@@ -23,10 +23,10 @@ Asked f network sheet k = any (numbered (read_network f network) (read_sheet f s
 -- the same of a fragment by its tables, and what the cut of it says
 module _ (c : Fragment) where
   abbrev pub EnteredOf : Type 0
-  EnteredOf = AllEntered c.entered.form c.entered.network.now c.entered.sheet.now
+  EnteredOf = AllEntered c.entered.network.form c.entered.network.bytes.now c.entered.sheet.now
 
   abbrev pub AskedOf : Type 0
-  AskedOf = Asked c.entered.form c.entered.network.now c.entered.sheet.now c.k
+  AskedOf = Asked c.entered.network.form c.entered.network.bytes.now c.entered.sheet.now c.k
 
   abbrev pub said_of : Answer HouseNetwork
-  said_of = cut_said c.entered.form c.entered.network.now c.entered.sheet.now c.k
+  said_of = cut_said c.entered.network.form c.entered.network.bytes.now c.entered.sheet.now c.k

@@ -13,14 +13,13 @@ ghost use Rattle.marking.specs.Fragments.{reaching, LeavesOf, FeedsOf};
 ghost use Rattle.records.specs.Checked.{CheckedRows, CheckedEntries};
 ghost use Rattle.layout.specs.Form.{sheet_lead};
 
-use entries::check_sheet;
+use entries::{EntriesRecord, check_sheet};
 use laying::lay;
-use layout::{Class, EDGES_FIELD, Form, NODES_FIELD, ROWS, Refusal, SHEET_LEAD};
+use layout::{Class, ROWS, Refusal, SHEET_LEAD};
 use marking::{Entered, Fragment, Kept, Wires, first_inside};
-use nodes::refused_at;
-use numbers::u16_at;
+use nodes::NetworkRecord;
 use outcomes::laid_in;
-use records::{check_network_rows, place_entries};
+use records::{TabledNetwork, check_network_rows, place_entries};
 
 // What is kept of each row, and then the record, or 20 where there is no room for it.
 fn cut_agreed(
@@ -31,15 +30,14 @@ fn cut_agreed(
     edges: usize,
     out: &mut [u8],
 ) -> Result<usize, Refusal>
-    requires filled { Filled fragment.entered.form fragment.entered.network.now rows.now }
-    requires edges_value { edges ≡ count (reaching fragment) (edge_count fragment.entered.network.now) }
+    requires filled { Filled fragment.entered.network.form fragment.entered.network.bytes.now rows.now }
+    requires edges_value { edges ≡ count (reaching fragment) (edge_count fragment.entered.network.bytes.now) }
     requires leaving { LeavesOf fragment.entered leaves.now × FeedsOf fragment feeds.now }
     ensures answer { outcome_of result ≡ in_room (length out.old) (length (record_of fragment.entry)) }
     ensures buffer { out.new ≡ placed (record_of fragment.entry) out.old }
 {
-    let n = usize::from(u16_at(fragment.entered.network, NODES_FIELD));
     let mut pieces = [Kept::Nothing; ROWS];
-    let nodes = fragment.classify_rows(leaves, feeds, n, &mut pieces);
+    let nodes = fragment.classify_rows(leaves, feeds, &mut pieces);
     let room = out.len();
     let size = lay(fragment, rows, &pieces, nodes, edges, out);
     laid_in(room, size)
@@ -47,44 +45,37 @@ fn cut_agreed(
 
 // Numbers 19 and 20, or the record.
 fn cut_asked(fragment: Fragment, rows: &[u16; 65536], out: &mut [u8]) -> Result<usize, Refusal>
-    requires filled { Filled fragment.entered.form fragment.entered.network.now rows.now }
+    requires filled { Filled fragment.entered.network.form fragment.entered.network.bytes.now rows.now }
     requires entered { EnteredOf fragment × AskedOf fragment }
-    ensures answer { outcome_of result ≡ record_answer fragment.entry.entered.form (length out.old) (said_of fragment.entry) }
-    ensures buffer { out.new ≡ laid_answer fragment.entry.entered.form (said_of fragment.entry) out.old }
+    ensures answer { outcome_of result ≡ record_answer fragment.entry.entered.network.form (length out.old) (said_of fragment.entry) }
+    ensures buffer { out.new ≡ laid_answer fragment.entry.entered.network.form (said_of fragment.entry) out.old }
 {
-    let form = fragment.entered.form;
     let network = fragment.entered.network;
-    let n = usize::from(u16_at(network, NODES_FIELD));
-    let m = usize::from(u16_at(network, EDGES_FIELD));
     let wires = Wires {
-        form,
-        network,
-        rows,
+        table: TabledNetwork { network, rows },
         fragments: fragment.fragments,
         k: fragment.k,
     };
     let mut leaves = [0; ROWS];
     let mut feeds = [0; ROWS];
-    let edges = wires.mark_wires(m, &mut leaves, &mut feeds);
-    let clash = fragment.entered.first_clash(&leaves, n);
-    if clash < n {
-        return Err(refused_at(Class::NoteDiffers, form, network, clash));
+    let edges = wires.mark_wires(&mut leaves, &mut feeds);
+    let clash = fragment.entered.first_clash(&leaves);
+    if clash < network.node_count() {
+        return Err(network.refused_at(Class::NoteDiffers, clash));
     }
     cut_agreed(fragment, rows, &leaves, &feeds, edges, out)
 }
 
 // Numbers 18 to 20, or the record.
 fn cut_entered(fragment: Fragment, rows: &[u16; 65536], out: &mut [u8]) -> Result<usize, Refusal>
-    requires filled { Filled fragment.entered.form fragment.entered.network.now rows.now }
+    requires filled { Filled fragment.entered.network.form fragment.entered.network.bytes.now rows.now }
     requires entered { EnteredOf fragment }
-    ensures answer { outcome_of result ≡ record_answer fragment.entry.entered.form (length out.old) (said_of fragment.entry) }
-    ensures buffer { out.new ≡ laid_answer fragment.entry.entered.form (said_of fragment.entry) out.old }
+    ensures answer { outcome_of result ≡ record_answer fragment.entry.entered.network.form (length out.old) (said_of fragment.entry) }
+    ensures buffer { out.new ≡ laid_answer fragment.entry.entered.network.form (said_of fragment.entry) out.old }
 {
-    let form = fragment.entered.form;
     let network = fragment.entered.network;
     let k = fragment.k;
-    let n = usize::from(u16_at(network, NODES_FIELD));
-    if first_inside(form, network, fragment.fragments, k, n) == n {
+    if first_inside(&network, fragment.fragments, k) == network.node_count() {
         return Err(Refusal {
             class: Class::NoSuchOwn,
             place: usize::from(k),
@@ -95,31 +86,33 @@ fn cut_entered(fragment: Fragment, rows: &[u16; 65536], out: &mut [u8]) -> Resul
 
 // Numbers 17 to 20, or the record.
 fn cut_checked(
-    form: Form,
-    network: &[u8],
+    network: NetworkRecord,
     sheet: &[u8],
     rows: &[u16; 65536],
     k: u8,
     out: &mut [u8],
 ) -> Result<usize, Refusal>
-    requires { CheckedRows form network.now rows.now × CheckedEntries form sheet_lead sheet.now }
-    ensures answer { outcome_of result ≡ record_answer form (length out.old) (cut_said form network.now sheet.now k) }
-    ensures buffer { out.new ≡ laid_answer form (cut_said form network.now sheet.now k) out.old }
+    requires { CheckedRows network.form network.bytes.now rows.now × CheckedEntries network.form sheet_lead sheet.now }
+    ensures answer { outcome_of result ≡ record_answer network.entry.form (length out.old) (cut_said network.entry.form network.entry.bytes.now sheet.now k) }
+    ensures buffer { out.new ≡ laid_answer network.entry.form (cut_said network.entry.form network.entry.bytes.now sheet.now k) out.old }
 {
-    let n = usize::from(u16_at(network, NODES_FIELD));
+    let noted = EntriesRecord {
+        form: network.form,
+        lead: SHEET_LEAD,
+        bytes: sheet,
+    };
     let mut entries = [0; ROWS];
-    let missing = place_entries(form, SHEET_LEAD, network, sheet, &mut entries);
-    if missing < n {
-        return Err(refused_at(Class::NoEntry, form, network, missing));
+    let missing = place_entries(&network, &noted, &mut entries);
+    if missing < network.node_count() {
+        return Err(network.refused_at(Class::NoEntry, missing));
     }
     let entered = Entered {
-        form,
         network,
         sheet,
         entries: &entries,
     };
     let mut fragments = [0; ROWS];
-    entered.number_rows(n, &mut fragments);
+    entered.number_rows(&mut fragments);
     let fragment = Fragment {
         entered,
         fragments: &fragments,
@@ -137,5 +130,9 @@ pub fn cut(network: &[u8], sheet: &[u8], k: u8, out: &mut [u8]) -> Result<usize,
     let mut rows = [0; 65536];
     let form = check_network_rows(network, &mut rows)?;
     check_sheet(sheet)?;
-    cut_checked(form, network, sheet, &rows, k, out)
+    let record = NetworkRecord {
+        form,
+        bytes: network,
+    };
+    cut_checked(record, sheet, &rows, k, out)
 }

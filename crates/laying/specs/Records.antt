@@ -11,23 +11,23 @@ use Rattle.laying.specs.Pieces.{node_bytes, nodes_in, edge_bytes, edges_in, frag
 
 module _ (e : Entered) (pieces : List Kept) where
   abbrev pub node_of : ℕ → List ℕ
-  node_of = node_bytes e.form e.network.now e.sheet.now e.entries.now pieces
+  node_of = node_bytes e.network.form e.network.bytes.now e.sheet.now e.entries.now pieces
 
   abbrev pub nodes_of : List ℕ
-  nodes_of = nodes_in e.form e.network.now e.sheet.now e.entries.now pieces
+  nodes_of = nodes_in e.network.form e.network.bytes.now e.sheet.now e.entries.now pieces
 
 module _ (w : Wires) where
   abbrev pub edge_of : ℕ → List ℕ
-  edge_of = edge_bytes w.form w.network.now w.fragments.now w.k
+  edge_of = edge_bytes w.table.network.form w.table.network.bytes.now w.fragments.now w.k
 
   abbrev pub edges_of : List ℕ
-  edges_of = edges_in w.form w.network.now w.fragments.now w.k
+  edges_of = edges_in w.table.network.form w.table.network.bytes.now w.fragments.now w.k
 
 module _ (c : Fragment) where
   abbrev pub record_of : List ℕ
-  record_of = write_network c.entered.form (fragment_in c.entered.form c.entered.network.now c.entered.sheet.now c.k)
+  record_of = write_network c.entered.network.form (fragment_in c.entered.network.form c.entered.network.bytes.now c.entered.sheet.now c.k)
 
   -- with these counts of nodes and edges
   abbrev pub PartsOf : List Kept → ℕ → ℕ → ℕ → Type 0
   PartsOf pieces size nodes edges =
-      FragmentParts c.entered.form c.entered.network.now c.entered.sheet.now c.entered.entries.now c.fragments.now pieces c.k size nodes edges
+      FragmentParts c.entered.network.form c.entered.network.bytes.now c.entered.sheet.now c.entered.entries.now c.fragments.now pieces c.k size nodes edges

@@ -5,18 +5,17 @@ ghost use Rattle.laying.specs.Pieces.{NotesOfOwn};
 ghost use Rattle.laying.specs.Records.{nodes_of, edges_of};
 
 use crate::rows::{lay_edge, lay_node};
-use layout::{EDGE_WIDTH, EDGES_FIELD, NODES_FIELD, ROWS, edge_offset};
+use layout::{EDGE_WIDTH, ROWS};
 use marking::{Entered, Kept, Wires};
-use numbers::u16_at;
 
 // The nodes. Answers how many bytes they are.
 pub fn lay_nodes(entered: Entered, pieces: &[Kept; ROWS], out: &mut [u8]) -> usize
-    requires notes { NotesOfOwn entered.form entered.network.now pieces.now }
+    requires notes { NotesOfOwn entered.network.form entered.network.bytes.now pieces.now }
     requires room { length (nodes_of entered pieces.now) ≤ length out.old }
     ensures size { result ≡ length (nodes_of entered.entry pieces.now) }
     ensures laid { out.new ≡ over (nodes_of entered.entry pieces.now) out.old }
 {
-    let n = usize::from(u16_at(entered.network, NODES_FIELD));
+    let n = entered.network.node_count();
     let mut o = 0;
     for i in 0..n {
         o += lay_node(entered, pieces, i, &mut out[o..]);
@@ -29,9 +28,10 @@ pub fn lay_edges(wires: Wires, out: &mut [u8])
     requires { length (edges_of wires) ≤ length out.old }
     ensures { out.new ≡ over (edges_of wires.entry) out.old }
 {
-    let n = usize::from(u16_at(wires.network, EDGES_FIELD));
+    let network = wires.table.network;
+    let n = network.edge_count();
     let mut o = 0;
-    let mut at = edge_offset(wires.form, wires.network, 0);
+    let mut at = network.edge_offset(0);
     for j in 0..n {
         o += lay_edge(wires, j, at, &mut out[o..]);
         at += EDGE_WIDTH;

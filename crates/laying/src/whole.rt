@@ -11,6 +11,7 @@ ghost use Rattle.laying.specs.Records.{record_of, PartsOf};
 use crate::parts::{lay_edges, lay_nodes};
 use layout::{HEAD_WIDTH, POLICIES_FIELD, ROWS};
 use marking::{Fragment, Kept, Wires};
+use records::TabledNetwork;
 use writing::{put_head, put_policies, size_of};
 
 // The four parts, one behind another, where there is room for them.
@@ -23,28 +24,25 @@ fn lay_parts(
     edges: u16,
     out: &mut [u8],
 )
-    requires notes { NotesOfOwn fragment.entered.form fragment.entered.network.now pieces.now }
-    requires filled { Filled fragment.entered.form fragment.entered.network.now rows.now }
+    requires notes { NotesOfOwn fragment.entered.network.form fragment.entered.network.bytes.now pieces.now }
+    requires filled { Filled fragment.entered.network.form fragment.entered.network.bytes.now rows.now }
     requires room { (size < 16777216) × (size ≤ length out.old) }
     requires fragment_parts { PartsOf fragment pieces.now size nodes edges }
     ensures { out.new ≡ placed (record_of fragment.entry) out.old }
 {
-    let form = fragment.entered.form;
     let network = fragment.entered.network;
     put_head(
-        form.version,
+        network.form.version,
         size,
         nodes,
         edges,
-        network[POLICIES_FIELD],
+        network.bytes[POLICIES_FIELD],
         out,
     );
-    let a = HEAD_WIDTH + put_policies(network, &mut out[HEAD_WIDTH..]);
+    let a = HEAD_WIDTH + put_policies(network.bytes, &mut out[HEAD_WIDTH..]);
     let b = a + lay_nodes(fragment.entered, pieces, &mut out[a..]);
     let wires = Wires {
-        form,
-        network,
-        rows,
+        table: TabledNetwork { network, rows },
         fragments: fragment.fragments,
         k: fragment.k,
     };
@@ -61,16 +59,16 @@ pub fn lay(
     edges: usize,
     out: &mut [u8],
 ) -> usize
-    requires tables { PiecesOf fragment pieces.now × Filled fragment.entered.form fragment.entered.network.now rows.now }
-    requires nodes_value { nodes ≡ count (kept_of fragment) (node_count fragment.entered.network.now) }
-    requires edges_value { edges ≡ count (reaching fragment) (edge_count fragment.entered.network.now) }
+    requires tables { PiecesOf fragment pieces.now × Filled fragment.entered.network.form fragment.entered.network.bytes.now rows.now }
+    requires nodes_value { nodes ≡ count (kept_of fragment) (node_count fragment.entered.network.bytes.now) }
+    requires edges_value { edges ≡ count (reaching fragment) (edge_count fragment.entered.network.bytes.now) }
     ensures size { result ≡ length (record_of fragment.entry) }
     ensures laid { out.new ≡ placed (record_of fragment.entry) out.old }
 {
     let nodes = nodes as u16;
     let edges = edges as u16;
-    let form = fragment.entered.form;
-    let size = size_of(form, fragment.entered.network[POLICIES_FIELD], nodes, edges);
+    let network = fragment.entered.network;
+    let size = size_of(network.form, network.bytes[POLICIES_FIELD], nodes, edges);
     if out.len() < size {
         return size;
     }

@@ -21,9 +21,9 @@ use Rattle.lists.specs.Answer.{is_some}
 use Rattle.networks.specs.Cut.{numbered}
 use Rattle.networks.specs.Network.{Own}
 use Rattle.networks.specs.Sheets.{number, note}
-use Rattle.records.specs.Checked.{CheckedNetwork, CheckedEntries}
+use Rattle.records.specs.Checked.{CheckedEntries}
 use Rattle.records.specs.Entered.{entry_in, entered, EntryRows}
-use Rattle.layout.specs.Layout.{entry_count, entry_offset, node_count}
+use Rattle.layout.specs.Layout.{Room, entry_count, entry_offset, node_count}
 use Rattle.layout.specs.Form.{sheet_lead}
 use Rattle.nodes.specs.Node.{node_id, is_own}
 use Rattle.layout.proofs.Places.{entry_room}
@@ -59,8 +59,8 @@ module _ (f : Form) (network sheet : List ℕ) (i : ℕ) (t : Bool) (e : t ≡ i
       unfolding row_fragment
       own_fragment = rw (ours, number_there f sheet (node_id f network i) (rw (← entry_is) there), ← entry_is, a)
 
-pub row_small : (f : Form) (network : List ℕ) (i : ℕ) → CheckedNetwork f network → i < node_count network → i < 1024
-row_small f network i c l = let r = c.room.few in let u = c.room.usable.few in omega arith
+pub row_small : (f : Form) (network : List ℕ) (i : ℕ) → Room f network → i < node_count network → i < 1024
+row_small f network i r l = let few = r.few in let most = r.usable.few in omega arith
 
 pub entry_low : (entry : ℕ) → entry < 65536 → entry ≤ 65535
 entry_low entry l = omega arith
@@ -75,14 +75,14 @@ module _ (f : Form) (network sheet : List ℕ) (n : ℕ) (fragments₀ : List �
   numbering_start = record { within = omega arith; filled = after_none (with_fragment f network sheet) fragments₀ }
 
   module _ (i : ℕ) (fragments : List ℕ) (h : Numbering f network sheet n i fragments₀ fragments) where
-    pub numbering_end : n ≤ i → fragments ≡ table_after (with_fragment f network sheet) n fragments₀
-    numbering_end l = let w = h.within in let e : i ≡ n = omega arith in rw (← e) h.filled
+    pub numbering_end : n ≤ i → n ≡ node_count network → fragments ≡ table_after (with_fragment f network sheet) (node_count network) fragments₀
+    numbering_end l q = let w = h.within in let e : i ≡ node_count network = omega arith in rw (← e) h.filled
 
     pub numbering_row : i < n → n ≡ node_count network → i < node_count network
     numbering_row l e = omega arith
 
-    pub numbering_index : i < n → n ≡ node_count network → CheckedNetwork f network → i < 1024
-    numbering_index l e c = row_small f network i c (omega arith)
+    pub numbering_index : i < n → n ≡ node_count network → Room f network → i < 1024
+    numbering_index l e r = row_small f network i r (omega arith)
 
     pub numbering_next : (v : ℕ) → i < n → v ≡ row_fragment f network sheet i → Numbering f network sheet n (i + 1) fragments₀ (set fragments i v)
     unfolding with_fragment
@@ -94,14 +94,14 @@ module _ (f : Form) (network sheet : List ℕ) (n : ℕ) (fragments₀ : List �
 pub ruleset numbering = (input_fragment, own_room, own_sum, own_fragment, row_small, entry_low, numbering_start, numbering_end, numbering_row, numbering_index, numbering_next)
 
 -- what the table of all rows holds
-pub fragments_numbered : (f : Form) (network sheet : List ℕ) (n : ℕ) (fragments : List ℕ) → CheckedNetwork f network → n ≡ node_count network
-    → fragments ≡ table_after (with_fragment f network sheet) n (replicate 1024 0) → Numbered f network sheet fragments
+pub fragments_numbered : (f : Form) (network sheet fragments : List ℕ) → Room f network
+    → fragments ≡ table_after (with_fragment f network sheet) (node_count network) (replicate 1024 0) → Numbered f network sheet fragments
 unfolding with_fragment
-fragments_numbered f network sheet n fragments c e d =
-    let few = c.room.few in
-    let most = c.room.usable.few in
+fragments_numbered f network sheet fragments r d =
+    let few = r.few in
+    let most = r.usable.few in
     record {
-      row = λ i l. rw d (after_stored (row_fragment f network sheet) 0 (replicate 1024 0) n (omega (arith, length-replicate {A = ℕ} 1024 0)) i (omega arith));
+      row = λ i l. rw d (after_stored (row_fragment f network sheet) 0 (replicate 1024 0) (node_count network) (omega (arith, length-replicate {A = ℕ} 1024 0)) i l);
     }
 
 -- whether a row is an own one of fragment k

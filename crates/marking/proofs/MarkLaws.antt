@@ -86,24 +86,25 @@ module _ (f : Form) (network fragments : List ℕ) (k n : ℕ) (leaves₀ feeds�
   marking_start at e = record { within = omega arith; here = e; counted = count_none _; left = after_none _ leaves₀; fed = after_none _ feeds₀ }
 
   module _ (j at kept : ℕ) (leaves feeds : List ℕ) (h : Marking f network fragments k n j at kept leaves₀ feeds₀ leaves feeds) where
-    done : n ≤ j → j ≡ n
-    done l = let w = h.within in omega arith
+    module _ (l : n ≤ j) (e : n ≡ edge_count network) where
+      done : j ≡ edge_count network
+      done = let w = h.within in omega arith
 
-    pub marking_count : n ≤ j → kept ≡ count (reaches f network fragments k) n
-    marking_count l = rw (← done l) h.counted
+      pub marking_count : kept ≡ count (reaches f network fragments k) (edge_count network)
+      marking_count = rw (← done) h.counted
 
-    pub marking_left : n ≤ j → leaves ≡ table_after (marked_by f network (crosses f network fragments)) n leaves₀
-    marking_left l = rw (← done l) h.left
+      pub marking_left : leaves ≡ table_after (marked_by f network (crosses f network fragments)) (edge_count network) leaves₀
+      marking_left = rw (← done) h.left
 
-    pub marking_fed : n ≤ j → feeds ≡ table_after (marked_by f network (reaches f network fragments k)) n feeds₀
-    marking_fed l = rw (← done l) h.fed
+      pub marking_fed : feeds ≡ table_after (marked_by f network (reaches f network fragments k)) (edge_count network) feeds₀
+      marking_fed = rw (← done) h.fed
 
     module _ (l : j < n) where
       pub marking_at : n ≡ edge_count network → CheckedNetwork f network → length network < 2 ^ 64 → Fits w64 (at + 5)
       marking_at e c g = let p = h.here in omega (arith, edge_room f network c.room j (omega arith))
 
       module _ (t : Bool) (one : ℕ) (q : t ≡ reaches f network fragments k j) (o : one ≡ bool_byte t) where
-        pub marking_kept : Fits w64 n → Fits w64 (kept + one)
+        pub marking_kept : n ≤ 65535 → Fits w64 (kept + one)
         marking_kept g = let s = count_most t in let p = h.counted in omega (arith, count_le (reaches f network fragments k) j)
 
         pub marking_next : (leaves' feeds' : List ℕ) → leaves' ≡ marked_by f network (crosses f network fragments) j leaves

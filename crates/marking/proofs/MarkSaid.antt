@@ -68,14 +68,14 @@ module _ (f : Form) (network sheet fragments : List ℕ) (c : CheckedNetwork f n
       ∙ sym (rw (owns_read f network (edge_to f network j) ∙ to_own, owns_read f network (edge_from f network j) ∙ from_own))
 
   -- the marks of all edges with a property, on a table of zeros
-  module _ (n : ℕ) (marks : List ℕ) (e : n ≡ edge_count network) where
-    whole : (property : ℕ → Bool) → marks ≡ table_after (marked_by f network property) n (replicate 1024 0) → Marked f network property (edge_count network) marks
+  module _ (marks : List ℕ) where
+    whole : (property : ℕ → Bool) → marks ≡ table_after (marked_by f network property) (edge_count network) (replicate 1024 0) → Marked f network property (edge_count network) marks
     whole property h =
         let few = c.room.few in
         let most = c.room.usable.few in
-        rw (h, e) (marks_say f network property (omega arith) c.rising (edge_count network) (λ j l. (edge j l).from_there))
+        rw h (marks_say f network property (omega arith) c.rising (edge_count network) (λ j l. (edge j l).from_there))
 
-    pub leaving : marks ≡ table_after (marked_by f network (crosses f network fragments)) n (replicate 1024 0) → Leaving f network sheet marks
+    pub leaving : marks ≡ table_after (marked_by f network (crosses f network fragments)) (edge_count network) (replicate 1024 0) → Leaving f network sheet marks
     unfolding Leaving Marked leaves read_network wire_at edge_to edge_from edge_offset
     leaving h i l ours =
         whole (crosses f network fragments) h i l ∙ ap (λ (t : Bool). cond t 1 0)
@@ -90,7 +90,7 @@ module _ (f : Form) (network sheet fragments : List ℕ) (c : CheckedNetwork f n
             go true e = and-true (crosses f network fragments j) ∙ crosses_is i j q l ours (sym (eqb-true _ _ e))
             go false e = and-false (crosses f network fragments j)
 
-    pub feeding : (k : ℕ) → marks ≡ table_after (marked_by f network (reaches f network fragments k)) n (replicate 1024 0) → Feeding f network sheet k marks
+    pub feeding : (k : ℕ) → marks ≡ table_after (marked_by f network (reaches f network fragments k)) (edge_count network) (replicate 1024 0) → Feeding f network sheet k marks
     unfolding Feeding Marked feeds read_network wire_at edge_to edge_from edge_offset
     feeding k h i l =
         whole (reaches f network fragments k) h i l ∙ ap (λ (t : Bool). cond t 1 0)

@@ -22,7 +22,7 @@ use Rattle.routes.specs.declared.Route.{Route}
 use Rattle.networks.specs.Cut.{leaves, feeds, only, promised}
 use Rattle.networks.specs.Network.{Box, own}
 use Rattle.networks.specs.Sheets.{number, note}
-use Rattle.layout.specs.Layout.{node_count, node_offset}
+use Rattle.layout.specs.Layout.{Room, node_count, node_offset}
 use Rattle.nodes.specs.Node.{node_id, is_own, promising}
 use Rattle.layout.specs.declared.Form.{Form}
 use Rattle.reading.specs.Whole.{HouseNetwork, HouseSheet, read_network, read_sheet}
@@ -32,7 +32,6 @@ use Rattle.marking.specs.declared.pieces.Kept.TheVariants.{Nothing, Stays, Promi
 use Rattle.marking.specs.Pieces.{note_in, piece_in, keeps, kept_in, with_piece, piece_of, Piece, Pieces, some_kept}
 use Rattle.records.specs.Entered.{EntryRows}
 use Rattle.marking.specs.Tables.{row_fragment, Numbered}
-use Rattle.records.specs.Checked.{CheckedNetwork}
 use Rattle.reading.specs.Rows.{own_in}
 use Rattle.marking.proofs.Said.{own_box, input_box}
 use Rattle.marking.proofs.RowLaws.{node_there, noted, own_piece, other_piece}
@@ -165,17 +164,18 @@ module _ (f : Form) (network sheet : List ℕ) (k n : ℕ) (pieces₀ : List Kep
   classifying_start = record { within = omega arith; counted = count_none _; filled = after_none (with_piece f network sheet k) pieces₀ }
 
   module _ (i kept : ℕ) (pieces : List Kept) (s : Classifying f network sheet k n i kept pieces₀ pieces) where
-    done : n ≤ i → i ≡ n
-    done l = let w = s.within in omega arith
+    module _ (l : n ≤ i) (e : n ≡ node_count network) where
+      done : i ≡ node_count network
+      done = let w = s.within in omega arith
 
-    pub classifying_count : n ≤ i → kept ≡ count (keeps f network sheet k) n
-    classifying_count l = rw (← done l) s.counted
+      pub classifying_count : kept ≡ count (keeps f network sheet k) (node_count network)
+      classifying_count = rw (← done) s.counted
 
-    pub classifying_table : n ≤ i → pieces ≡ table_after (with_piece f network sheet k) n pieces₀
-    classifying_table l = rw (← done l) s.filled
+      pub classifying_table : pieces ≡ table_after (with_piece f network sheet k) (node_count network) pieces₀
+      classifying_table = rw (← done) s.filled
 
-    pub classifying_index : i < n → n ≡ node_count network → CheckedNetwork f network → i < 1024
-    classifying_index l e c = row_small f network i c (omega arith)
+    pub classifying_index : i < n → n ≡ node_count network → Room f network → i < 1024
+    classifying_index l e r = row_small f network i r (omega arith)
 
     module _ (l : i < n) (e : n ≡ node_count network) (found : List ℕ) (h : EntryRows f sheet_lead network sheet found)
         (piece : Kept) (p : piece ≡ kept_in f network sheet k i) (t : Bool) (q : t ≡ some_kept piece) (one : ℕ) (o : one ≡ bool_byte t) where
@@ -191,7 +191,7 @@ module _ (f : Form) (network sheet : List ℕ) (k n : ℕ) (pieces₀ : List Kep
           go Promised = refl
           go Assumed = refl
 
-      pub classifying_kept : Fits w64 n → Fits w64 (kept + one)
+      pub classifying_kept : n ≤ 65535 → Fits w64 (kept + one)
       classifying_kept g = let h = count_most t in let q = s.counted in omega (arith, count_le (keeps f network sheet k) i)
 
       pub classifying_next : Classifying f network sheet k n (i + 1) (kept + one) pieces₀ (set pieces i piece)
@@ -205,13 +205,13 @@ module _ (f : Form) (network sheet : List ℕ) (k n : ℕ) (pieces₀ : List Kep
 pub ruleset classifications = (classifying_start, classifying_count, classifying_table, classifying_index, classifying_kept, classifying_next)
 
 -- what the table of all rows holds
-pub pieces_made : (f : Form) (network sheet found : List ℕ) (k n : ℕ) (pieces : List Kept) → CheckedNetwork f network → EntryRows f sheet_lead network sheet found → n ≡ node_count network
-    → pieces ≡ table_after (with_piece f network sheet k) n (replicate 1024 Nothing) → Pieces f network sheet found k pieces
+pub pieces_made : (f : Form) (network sheet found : List ℕ) (k : ℕ) (pieces : List Kept) → Room f network → EntryRows f sheet_lead network sheet found
+    → pieces ≡ table_after (with_piece f network sheet k) (node_count network) (replicate 1024 Nothing) → Pieces f network sheet found k pieces
 unfolding with_piece
-pieces_made f network sheet found k n pieces c h e d =
-    let few = c.room.few in
-    let most = c.room.usable.few in
+pieces_made f network sheet found k pieces r h d =
+    let few = r.few in
+    let most = r.usable.few in
     record {
-      row = λ i l. rw (d, after_stored (kept_in f network sheet k) Nothing (replicate 1024 Nothing) n (omega (arith, length-replicate {A = Kept} 1024 Nothing)) i (omega arith))
+      row = λ i l. rw (d, after_stored (kept_in f network sheet k) Nothing (replicate 1024 Nothing) (node_count network) (omega (arith, length-replicate {A = Kept} 1024 Nothing)) i l)
           (piece_is f network sheet i l k found h);
     }

@@ -13,26 +13,26 @@ use Rattle.marking.specs.Pieces.{keeps, with_piece, Pieces}
 
 module _ (w : Wires) where
   abbrev pub crossing : ℕ → Bool
-  crossing = crosses w.form w.network.now w.fragments.now
+  crossing = crosses w.table.network.form w.table.network.bytes.now w.fragments.now
 
   abbrev pub entering : ℕ → Bool
-  entering = reaches w.form w.network.now w.fragments.now w.k
+  entering = reaches w.table.network.form w.table.network.bytes.now w.fragments.now w.k
 
 abbrev pub LeavesOf : Entered → List ℕ → Type 0
-LeavesOf e = Leaving e.form e.network.now e.sheet.now
+LeavesOf e = Leaving e.network.form e.network.bytes.now e.sheet.now
 
 module _ (c : Fragment) where
   abbrev pub FeedsOf : List ℕ → Type 0
-  FeedsOf = Feeding c.entered.form c.entered.network.now c.entered.sheet.now c.k
+  FeedsOf = Feeding c.entered.network.form c.entered.network.bytes.now c.entered.sheet.now c.k
 
   abbrev pub kept_of : ℕ → Bool
-  kept_of = keeps c.entered.form c.entered.network.now c.entered.sheet.now c.k
+  kept_of = keeps c.entered.network.form c.entered.network.bytes.now c.entered.sheet.now c.k
 
   abbrev pub keeping : ℕ → List Kept → List Kept
-  keeping = with_piece c.entered.form c.entered.network.now c.entered.sheet.now c.k
+  keeping = with_piece c.entered.network.form c.entered.network.bytes.now c.entered.sheet.now c.k
 
   abbrev pub reaching : ℕ → Bool
-  reaching = reaches c.entered.form c.entered.network.now c.fragments.now c.k
+  reaching = reaches c.entered.network.form c.entered.network.bytes.now c.fragments.now c.k
 
   abbrev pub PiecesOf : List Kept → Type 0
-  PiecesOf = Pieces c.entered.form c.entered.network.now c.entered.sheet.now c.entered.entries.now c.k
+  PiecesOf = Pieces c.entered.network.form c.entered.network.bytes.now c.entered.sheet.now c.entered.entries.now c.k

@@ -7,8 +7,8 @@ ghost use Rattle.marking.specs.Pieces.{note_offset};
 ghost use Rattle.marking.specs.Tables.{unclashed};
 
 use crate::tables::Entered;
-use layout::{ROWS, SHEET_LEAD, entry_offset, node_offset};
-use nodes::{is_own, promising_at};
+use layout::{ROWS, SHEET_LEAD, entry_offset};
+use nodes::promising_at;
 use routes::{route_at, same};
 
 impl Entered<'_> {
@@ -16,41 +16,42 @@ impl Entered<'_> {
 
     // The offset in the sheet of the note of the own node in row i.
     pub fn note_offset(self, i: usize) -> usize
-        requires { (i < node_count self.network.now) × (is_own self.form self.network.now i ≡ true) }
-        ensures { (result ≡ note_offset self.entry.form self.entry.entries.now i) × (result + self.entry.form.route ≤ length self.entry.sheet.now) }
+        requires { (i < node_count self.network.bytes.now) × (is_own self.network.form self.network.bytes.now i ≡ true) }
+        ensures { (result ≡ note_offset self.entry.network.form self.entry.entries.now i) × (result + self.entry.network.form.route ≤ length self.entry.sheet.now) }
     {
         let entry = usize::from(self.entries[i]);
-        entry_offset(self.form, SHEET_LEAD, entry) + SHEET_LEAD
+        entry_offset(self.network.form, SHEET_LEAD, entry) + SHEET_LEAD
     }
 
     // Whether the node in row i is no own one, or none that a cut wire leaves, or promises nothing but its note.
     fn keeps_promise(self, leaves: &[u8; ROWS], i: usize) -> bool
-        requires { (i < node_count self.network.now) × LeavesOf self leaves.now }
-        ensures { result ≡ unclashed self.entry.form self.entry.network.now self.entry.sheet.now i }
+        requires { (i < node_count self.network.bytes.now) × LeavesOf self leaves.now }
+        ensures { result ≡ unclashed self.entry.network.form self.entry.network.bytes.now self.entry.sheet.now i }
     {
-        if !is_own(self.form, self.network, i) {
+        if !self.network.is_own(i) {
             return true;
         }
         if leaves[i] == 0 {
             return true;
         }
-        let width = self.form.route;
-        let at = node_offset(self.form, self.network, i);
-        if !promising_at(width, self.network, at) {
+        let width = self.network.form.route;
+        let at = self.network.node_offset(i);
+        if !promising_at(width, self.network.bytes, at) {
             return true;
         }
         let note = self.note_offset(i);
         same(
-            route_at(width, self.network, at + 4 + width),
+            route_at(width, self.network.bytes, at + 4 + width),
             route_at(width, self.sheet, note),
         )
     }
 
-    // The first of n rows that is an own node which a cut wire leaves and whose promise is not its note, or n.
-    pub fn first_clash(self, leaves: &[u8; ROWS], n: usize) -> usize
-        requires { (n ≡ node_count self.network.now) × LeavesOf self leaves.now }
-        ensures { result ≡ first_bad (unclashed self.entry.form self.entry.network.now self.entry.sheet.now) n }
+    // The first row that is an own node which a cut wire leaves and whose promise is not its note, or the number of rows.
+    pub fn first_clash(self, leaves: &[u8; ROWS]) -> usize
+        requires { LeavesOf self leaves.now }
+        ensures { result ≡ first_bad (unclashed self.entry.network.form self.entry.network.bytes.now self.entry.sheet.now) (node_count self.entry.network.bytes.now) }
     {
+        let n = self.network.node_count();
         for i in 0..n {
             if !self.keeps_promise(leaves, i) {
                 return i;

@@ -6,8 +6,8 @@ ghost use Rattle.marking.specs.Pieces.{kept_in, some_kept};
 ghost use Rattle.marking.specs.declared.pieces.Kept.TheVariants.{Nothing};
 
 use crate::tables::Fragment;
-use layout::{ROWS, node_offset};
-use nodes::{is_own, promising_at};
+use layout::ROWS;
+use nodes::promising_at;
 
 // What the fragment keeps of a node: nothing, the node as it stands, the node with its note promised, or its note assumed.
 #[derive(Clone, Copy)]
@@ -45,13 +45,12 @@ impl Fragment<'_> {
 
     // What the fragment keeps of the node in row i.
     fn piece_of(self, leaves: &[u8; ROWS], feeds: &[u8; ROWS], i: usize) -> Kept
-        requires row { i < node_count self.entered.network.now }
+        requires row { i < node_count self.entered.network.bytes.now }
         requires leaving { LeavesOf self.entered leaves.now × FeedsOf self feeds.now }
-        ensures { result ≡ kept_in self.entry.entered.form self.entry.entered.network.now self.entry.entered.sheet.now self.entry.k i }
+        ensures { result ≡ kept_in self.entry.entered.network.form self.entry.entered.network.bytes.now self.entry.entered.sheet.now self.entry.k i }
     {
-        let form = self.entered.form;
         let network = self.entered.network;
-        if !is_own(form, network, i) {
+        if !network.is_own(i) {
             return where_marked(feeds[i], Kept::Stays);
         }
         if self.fragments[i] != self.k {
@@ -60,25 +59,24 @@ impl Fragment<'_> {
         if leaves[i] == 0 {
             return Kept::Stays;
         }
-        if promising_at(form.route, network, node_offset(form, network, i)) {
+        if promising_at(network.form.route, network.bytes, network.node_offset(i)) {
             return Kept::Stays;
         }
         Kept::Promised
     }
 
-    // Stores what the fragment keeps of each of n rows. Answers how many are kept.
+    // Stores what the fragment keeps of each row. Answers how many are kept.
     pub fn classify_rows(
         self,
         leaves: &[u8; ROWS],
         feeds: &[u8; ROWS],
-        n: usize,
         pieces: &mut [Kept; ROWS],
     ) -> usize
-        requires rows { n ≡ node_count self.entered.network.now }
-        requires leaving { LeavesOf self.entered leaves.now × FeedsOf self feeds.now }
-        ensures kept { result ≡ count (kept_of self.entry) n }
-        ensures classified { pieces.new ≡ table_after (keeping self.entry) n pieces.old }
+        requires { LeavesOf self.entered leaves.now × FeedsOf self feeds.now }
+        ensures kept { result ≡ count (kept_of self.entry) (node_count self.entry.entered.network.bytes.now) }
+        ensures classified { pieces.new ≡ table_after (keeping self.entry) (node_count self.entry.entered.network.bytes.now) pieces.old }
     {
+        let n = self.entered.network.node_count();
         let mut kept = 0;
         for i in 0..n {
             let piece = self.piece_of(leaves, feeds, i);

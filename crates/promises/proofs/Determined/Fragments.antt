@@ -12,10 +12,10 @@ use Rattle.marking.proofs.Fragment.classify_rows.Reads as classify_rows
 use Rattle.laying.proofs.lay.Reads as lay
 use Rattle.promises.specs.Determined.{One}
 
-pub one_number_rows : (κs : Lfts 2) → One (number_rows.Post κs) (λ r e. e.1.1.0.now)
+pub one_number_rows : (κs : Lfts 2) → One (number_rows.Post κs) (λ r e. e.1.0.now)
 one_number_rows κs a r r' e e' p q = cc
 
-pub one_first_inside : (κs : Lfts 2) → One (first_inside.Post κs) (λ r e. r)
+pub one_first_inside : (κs : Lfts 3) → One (first_inside.Post κs) (λ r e. r)
 one_first_inside κs a r r' e e' p q = cc
 
 pub one_first_clash : (κs : Lfts 2) → One (first_clash.Post κs) (λ r e. r)
@@ -24,10 +24,10 @@ one_first_clash κs a r r' e e' p q = cc
 pub one_note_offset : (κs : Lfts 1) → One (note_offset.Post κs) (λ r e. r)
 one_note_offset κs a r r' e e' p q = cc
 
-pub one_mark_wires : (κs : Lfts 3) → One {B = ℕ × List ℕ × List ℕ} (mark_wires.Post κs) (λ r e. (r, e.1.1.0.now, e.1.1.1.0.now))
+pub one_mark_wires : (κs : Lfts 4) → One {B = ℕ × List ℕ × List ℕ} (mark_wires.Post κs) (λ r e. (r, e.1.0.now, e.1.1.0.now))
 one_mark_wires κs a r r' e e' p q = cc
 
-pub one_classify_rows : (κs : Lfts 4) → One {B = ℕ × List Kept} (classify_rows.Post κs) (λ r e. (r, e.1.1.1.1.0.now))
+pub one_classify_rows : (κs : Lfts 4) → One {B = ℕ × List Kept} (classify_rows.Post κs) (λ r e. (r, e.1.1.1.0.now))
 one_classify_rows κs a r r' e e' p q = cc
 
 pub one_lay : (κs : Lfts 4) → One {B = ℕ × List ℕ} (lay.Post κs) (λ r e. (r, e.1.1.1.1.1.0.now))

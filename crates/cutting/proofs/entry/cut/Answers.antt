@@ -2,7 +2,7 @@
 use Rattle.std.proofs.Common.{Ok, Err}
 use Rattle.std.proofs.lemmas.Result.{err_from_is_err_and}
 use Rattle.cutting.proofs.CheckLaws.{checking, sheet_checked}
-use Rattle.records.proofs.Checked.{rows_checked}
+use Rattle.records.proofs.Checked.{network_checked, rows_checked}
 use mathlib.Core.Path.{◌≡◌}
 use Rattle.cutting.proofs.entry.cut.Goals as goal
 
@@ -28,6 +28,11 @@ cut_checked-requires c =
       rows_checked n.result _ ok _ n.ensures.numbers (λ i. (c.type_inv.network i).fits) _ _ n.ensures.table,
       sheet_checked _ _ n.result n.ensures.numbers s.result s.ensures (λ i. (c.type_inv.sheet i).fits) _ ok _ fine,
     )
+
+pub invariant_of-record : goal.invariant_of-record
+invariant_of-record c =
+    let n = c.check_network_rows in
+    record { room = (network_checked n.result _ c.in_ok-form.was _ n.ensures.numbers (λ i. (c.type_inv.network i).fits)).room }
 
 pub returns : goal.returns
 returns c =

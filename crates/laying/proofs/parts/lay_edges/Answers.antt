@@ -5,9 +5,6 @@ use mathlib.Core.Path.{◌≡◌}
 use borrow.Author.Rules.{rules}
 use Rattle.laying.proofs.parts.lay_edges.Goals as goal
 
-pub u16_at-requires : goal.u16_at-requires
-u16_at-requires c = search (rules, laying, offsets)
-
 pub edge_offset-at-requires : goal.edge_offset-at-requires
 edge_offset-at-requires c = search (rules, laying, offsets)
 
@@ -34,7 +31,7 @@ overflow_add-at c = search (rules, laying, offsets)
 
 pub loop-j-preserved : goal.loop-j-preserved
 loop-j-preserved c =
-    let places : c.from-n.result ≡ edge_count c.args.wires.network.now = search rules in
+    let places : c.edge_count-n.result ≡ edge_count c.args.wires.table.network.bytes.now = search rules in
     (search offsets, search (laying, places))
 
 pub shape_of-out : goal.shape_of-out

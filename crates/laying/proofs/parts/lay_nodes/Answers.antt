@@ -5,9 +5,6 @@ use mathlib.Core.Path.{◌≡◌}
 use borrow.Author.Rules.{rules}
 use Rattle.laying.proofs.parts.lay_nodes.Goals as goal
 
-pub u16_at-requires : goal.u16_at-requires
-u16_at-requires c = search (rules, laying)
-
 pub loop-i-init : goal.loop-i-init
 loop-i-init c = search (rules, laying)
 
@@ -28,7 +25,7 @@ overflow_add-o c = search (rules, laying)
 
 pub loop-i-preserved : goal.loop-i-preserved
 loop-i-preserved c =
-    let places : c.from-n.result ≡ node_count c.args.entered.network.now = search rules in
+    let places : c.node_count-n.result ≡ node_count c.args.entered.network.bytes.now = search rules in
     search (laying, places)
 
 pub shape_of-out : goal.shape_of-out

@@ -5,4 +5,4 @@ use Rattle.layout.specs.Layout.{node_count}
 use Rattle.laying.proofs.parts.lay_nodes.Given as goal
 
 abbrev pub invariant-loop-i : goal.invariant-loop-i
-invariant-loop-i l = Laying (node_bytes l.entered.form l.entered.network.now l.entered.sheet.now l.entered.entries.now l.pieces) (node_count l.entered.network.now) l.initial.out l.out l.i l.o
+invariant-loop-i l = Laying (node_bytes l.entered.network.form l.entered.network.bytes.now l.entered.sheet.now l.entered.entries.now l.pieces) (node_count l.entered.network.bytes.now) l.initial.out l.out l.i l.o

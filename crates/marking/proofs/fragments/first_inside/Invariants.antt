@@ -4,4 +4,4 @@ use Rattle.marking.specs.Tables.{outside}
 use Rattle.marking.proofs.fragments.first_inside.Given as goal
 
 abbrev pub invariant-loop-i : goal.invariant-loop-i
-invariant-loop-i l = Seek (outside l.form l.network l.fragments l.k) l.n l.i
+invariant-loop-i l = Seek (outside l.network.form l.network.bytes.now l.fragments l.k) l.n l.i

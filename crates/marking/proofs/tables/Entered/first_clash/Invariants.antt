@@ -4,4 +4,4 @@ use Rattle.marking.specs.Tables.{unclashed}
 use Rattle.marking.proofs.tables.Entered.first_clash.Given as goal
 
 abbrev pub invariant-loop-i : goal.invariant-loop-i
-invariant-loop-i l = Seek (unclashed l.self.form l.self.network.now l.self.sheet.now) l.n l.i
+invariant-loop-i l = Seek (unclashed l.self.network.form l.self.network.bytes.now l.self.sheet.now) l.n l.i

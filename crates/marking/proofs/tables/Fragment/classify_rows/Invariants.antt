@@ -3,4 +3,4 @@ use Rattle.marking.proofs.PieceLaws.{Classifying}
 use Rattle.marking.proofs.tables.Fragment.classify_rows.Given as goal
 
 abbrev pub invariant-loop-i : goal.invariant-loop-i
-invariant-loop-i l = Classifying l.self.entered.form l.self.entered.network.now l.self.entered.sheet.now l.self.k l.n l.i l.kept l.initial.pieces l.pieces
+invariant-loop-i l = Classifying l.self.entered.network.form l.self.entered.network.bytes.now l.self.entered.sheet.now l.self.k l.n l.i l.kept l.initial.pieces l.pieces
