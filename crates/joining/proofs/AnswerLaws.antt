@@ -108,12 +108,12 @@ module _ (f : Form) (first second : List ℕ) where
     unfolding Matched
     none_unmatched l = lowest_said ∙ rw (le-ltb (lowest_unmatched f first second) 65536 l) refl
 
--- the lower of the two, as the code takes it
-module _ (f : Form) (first second : List ℕ) (a b i j : ℕ) (p : a ≡ first_bad (row_matched f first second) (node_count first))
-    (q : b ≡ first_bad (row_matched f second first) (node_count second)) (e : i ≡ front_id f first a) (d : j ≡ front_id f second b) where
+-- the lower of the two, as the code takes it, which reads the second network by its own form
+module _ (f g : Form) (same : g ≡ f) (first second : List ℕ) (a b i j : ℕ) (p : a ≡ first_bad (row_matched f first second) (node_count first))
+    (q : b ≡ first_bad (row_matched g second first) (node_count second)) (e : i ≡ front_id f first a) (d : j ≡ front_id g second b) where
   lowest_is : min i j ≡ lowest_unmatched f first second
   unfolding lowest_unmatched
-  lowest_is = rw (← p, ← q, ← e, ← d) (go (ltb j i) refl)
+  lowest_is = rw (← p, ← same, ← q, ← d, same, ← e) (go (ltb j i) refl)
     where
       go : (t : Bool) → ltb j i ≡ t → min i j ≡ cond (ltb j i) j i
       go true h = let l = ltb-true j i h in rw h (omega arith)

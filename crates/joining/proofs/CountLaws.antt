@@ -45,7 +45,7 @@ module _ (f : Form) (first second : List ℕ) (c : CheckedNetwork f first) (d : 
       (length_union box_id meeting 0 (read_network f first).boxes (read_network f second).boxes (rise first c).boxes_rise (rise second d).boxes_rise)
 
   -- as the code counts them
-  module _ (n m n' m' s : ℕ) (p : n ≡ n') (p' : n' ≡ node_count first) (q : m ≡ m') (q' : m' ≡ node_count second) (e : s ≡ count (in_other f first second) (node_count first)) where
+  module _ (n m s : ℕ) (p : n ≡ node_count first) (q : m ≡ node_count second) (e : s ≡ count (in_other f first second) (node_count first)) where
     pub shared_within : s ≤ n + m
     shared_within = omega (arith, boxes_counted)
 
@@ -69,11 +69,11 @@ module _ (f : Form) (first second : List ℕ) (c : CheckedNetwork f first) (d : 
       (none_once (read_network f first) (read_network f second) apart)
       ∙ rw (wires_length first, wires_length second) refl
 
-  pub edges_all : (n m n' m' : ℕ) → n ≡ n' → n' ≡ edge_count first → m ≡ m' → m' ≡ edge_count second → n + m ≡ edge_count first + edge_count second
-  edges_all n m n' m' p p' q q' = omega arith
+  pub edges_all : (n m : ℕ) → n ≡ edge_count first → m ≡ edge_count second → n + m ≡ edge_count first + edge_count second
+  edges_all n m p q = omega arith
 
-  pub edges_joined : (n m n' m' : ℕ) → n ≡ n' → n' ≡ edge_count first → m ≡ m' → m' ≡ edge_count second → n + m ≡ length (joined_in f first second).wires
-  edges_joined n m n' m' p p' q q' = omega (arith, wires_counted)
+  pub edges_joined : (n m : ℕ) → n ≡ edge_count first → m ≡ edge_count second → n + m ≡ length (joined_in f first second).wires
+  edges_joined n m p q = omega (arith, wires_counted)
 
   -- an edge of both would lead to a box that both own
   pub keys_apart : KeysApart f first second

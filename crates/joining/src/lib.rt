@@ -2,6 +2,7 @@
 #![tactic(auto)]
 
 mod entry;
+mod tabled;
 mod text;
 mod whole;
 

@@ -1,7 +1,7 @@
 // Matching: what two networks that are to be joined have in common, and whether they agree on it. The nodes of one are looked up in the other
 // by its table from ids to rows.
 //
-// It asks for two records of one form that a check has not refused.
+// It asks for two records of one form, whose parts are all there; the policies are those of a pair that a check has not refused.
 #![tactic(auto)]
 
 mod pair;

@@ -1,15 +1,17 @@
 // Two networks that are to be joined.
+ghost use Rattle.std.specs.Prelude.{◌≡◌};
 ghost use Rattle.records.specs.Checked.{CheckedNetwork};
-ghost use Rattle.matching.specs.Pair.{checked_prop};
+ghost use Rattle.records.specs.Once.{network_once};
+ghost use Rattle.matching.specs.Once.{one_form_once};
 
-use layout::Form;
+use nodes::NetworkRecord;
 
 // Two networks of one form that a check has not refused.
 #[derive(Clone, Copy)]
 pub struct Pair<'a> {
-    pub form: Form,
-    pub first: &'a [u8],
-    pub second: &'a [u8],
-    pub ghost first_checked: { CheckedNetwork form first.now } by { checked_prop form first.now },
-    pub ghost second_checked: { CheckedNetwork form second.now } by { checked_prop form second.now },
+    pub first: NetworkRecord<'a>,
+    pub second: NetworkRecord<'a>,
+    pub ghost one_form: { second.form ≡ first.form } by { one_form_once _ _ },
+    pub ghost first_checked: { CheckedNetwork first.form first.bytes.now } by { network_once _ _ },
+    pub ghost second_checked: { CheckedNetwork first.form second.bytes.now } by { network_once _ _ },
 }

@@ -8,17 +8,20 @@ ghost use Rattle.reading.specs.Whole.{read_network};
 ghost use Rattle.matching.specs.Policies.{policy_alike};
 
 use crate::pair::Pair;
-use layout::{POLICIES_FIELD, policy_offset};
+use layout::policy_offset;
 use routes::{policy_at, same_policy};
 
 // The first of n policies that is not the other network's at its place, or n.
 fn first_unlike(pair: Pair, n: usize) -> usize
-    requires { (n ≡ policy_count pair.first.now) × (n ≡ policy_count pair.second.now) }
-    ensures { let p = pair.entry in result ≡ first_bad (policy_alike p.first.now p.second.now) n }
+    requires { (n ≡ policy_count pair.first.bytes.now) × (n ≡ policy_count pair.second.bytes.now) }
+    ensures { let p = pair.entry in result ≡ first_bad (policy_alike p.first.bytes.now p.second.bytes.now) n }
 {
     for i in 0..n {
         let at = policy_offset(i);
-        if !same_policy(policy_at(pair.first, at), policy_at(pair.second, at)) {
+        if !same_policy(
+            policy_at(pair.first.bytes, at),
+            policy_at(pair.second.bytes, at),
+        ) {
             return i;
         }
     }
@@ -27,10 +30,10 @@ fn first_unlike(pair: Pair, n: usize) -> usize
 
 // Whether two networks have the same policies, in the same order.
 pub fn alike_policies(pair: Pair) -> bool
-    ensures { let p = pair.entry in result ≡ all_alike same_policy (read_network p.form p.first.now).policies (read_network p.form p.second.now).policies }
+    ensures { let p = pair.entry in result ≡ all_alike same_policy (read_network p.first.form p.first.bytes.now).policies (read_network p.first.form p.second.bytes.now).policies }
 {
-    let n = usize::from(pair.first[POLICIES_FIELD]);
-    if n != usize::from(pair.second[POLICIES_FIELD]) {
+    let n = pair.first.policy_count();
+    if n != pair.second.policy_count() {
         return false;
     }
     first_unlike(pair, n) == n

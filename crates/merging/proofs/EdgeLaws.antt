@@ -31,7 +31,7 @@ use Rattle.numbers.specs.BigEndian.{u32_at}
 use Rattle.numbers.proofs.Codecs.{u16_below}
 use Rattle.networks.specs.Join.{first_wire, joining}
 use Rattle.networks.specs.Network.{Wire, wire_key}
-use Rattle.layout.specs.Layout.{edge_count, edge_part, edge_offset}
+use Rattle.layout.specs.Layout.{Room, edge_count, edge_part, edge_offset}
 use Rattle.layout.specs.declared.Form.{Form}
 use Rattle.layout.proofs.Places.{edge_room}
 use Rattle.records.specs.Checked.{CheckedNetwork}
@@ -52,15 +52,12 @@ abbrev pub edge_tables : Form → List ℕ → List ℕ → Tables Wire
 edge_tables f first second =
     record { key = wire_key; meet = first_wire; top = 4294967296; width = 5; one = edge_table f first; other = edge_table f second }
 
-module _ (f : Form) (b : List ℕ) (c : CheckedNetwork f b) (p : ℕ) where
-  key_low : edge_key f b p < 4294967296
+module _ (f : Form) (b : List ℕ) (p : ℕ) where
+  key_low : CheckedNetwork f b → edge_key f b p < 4294967296
   unfolding edge_key edge_to edge_from
-  key_low = omega (arith, u16_below b (edge_offset f b p) (c.bytes _, c.bytes _), u16_below b (edge_offset f b p + 2) (c.bytes _, c.bytes _))
+  key_low c = omega (arith, u16_below b (edge_offset f b p) (c.bytes _, c.bytes _), u16_below b (edge_offset f b p + 2) (c.bytes _, c.bytes _))
 
-  module _ (n m : ℕ) (e : n ≡ m) (d : m ≡ edge_count b) where
-    pub front_row : p < n → p < edge_count b
-    front_row l = omega arith
-
+  module _ (n : ℕ) (e : n ≡ edge_count b) where
     pub front_key_lem : p < n → (o x y : ℕ) → o ≡ edge_offset f b p → x ≡ y → y ≡ u32_at b o → x ≡ front_key f b p
     unfolding front_key edge_key edge_to edge_from u32_at
     front_key_lem l o x y q r h = rw (lt-ltb p (edge_count b) (omega arith)) (r ∙ h ∙ rw q refl)
@@ -69,14 +66,10 @@ module _ (f : Form) (b : List ℕ) (c : CheckedNetwork f b) (p : ℕ) where
     unfolding front_key
     front_none l = rw (le-ltb p (edge_count b) (omega arith)) refl
 
-  pub key_small : (o x y : ℕ) → o ≡ edge_offset f b p → x ≡ y → y ≡ u32_at b o → x ≤ 4294967296
-  unfolding edge_key edge_to edge_from u32_at
-  key_small o x y q r h = let z : x ≡ edge_key f b p = r ∙ h ∙ rw q refl in omega (arith, z, key_low)
+  pub key_there : Room f b → (o : ℕ) → o ≡ edge_offset f b p → p < edge_count b → o + 4 ≤ length b
+  key_there r o q l = omega (arith, edge_room f b r p l)
 
-  pub key_there : (o : ℕ) → o ≡ edge_offset f b p → p < edge_count b → o + 4 ≤ length b
-  key_there o q l = omega (arith, edge_room f b c.room p l)
-
-pub ruleset key_fronts = (front_row, front_key_lem, front_none, key_small, key_there)
+pub ruleset key_fronts = (front_key_lem, front_none, key_there)
 
 module _ (f : Form) (first second : List ℕ) where
   abbrev T : Tables Wire
@@ -113,7 +106,7 @@ module _ (b : List ℕ) (limit n start : ℕ) where
   run_start = walk_start (at start 5) under n start (sym (at_zero start 5))
 
   -- the edges are those from row p on, as many as the code counts
-  module _ (f : Form) (p x y : ℕ) (e : x ≡ y) (d : y ≡ edge_count b) (m : n ≡ x - p) (s : start ≡ edge_offset f b p) where
+  module _ (f : Form) (p x : ℕ) (e : x ≡ edge_count b) (m : n ≡ x - p) (s : start ≡ edge_offset f b p) where
     key_at : (i : ℕ) → u32_at b (at start 5 i) ≡ edge_key f b (p + i)
     unfolding edge_key edge_to edge_from u32_at edge_offset at
     key_at i = let z : start + i * 5 ≡ edge_part f b + (p + i) * 5 = omega (arith, s) in rw z refl
@@ -129,12 +122,12 @@ module _ (b : List ℕ) (limit n start : ℕ) where
       run_end l = walk_end (at start 5) under n k o w l ∙ same_run
 
       module _ (l : k < n) where
-        edge_there : CheckedNetwork f b → o + 5 ≤ length b
+        edge_there : Room f b → o + 5 ≤ length b
         unfolding edge_offset at
-        edge_there c = omega (arith, w.here, s, edge_room f b c.room (p + k) (omega arith))
+        edge_there r = omega (arith, w.here, s, edge_room f b r (p + k) (omega arith))
 
-        pub run_sum : CheckedNetwork f b → length b < 2 ^ 64 → Fits w64 (o + 5)
-        run_sum c g = omega (arith, edge_there c)
+        pub run_sum : Room f b → length b < 2 ^ 64 → Fits w64 (o + 5)
+        run_sum r g = omega (arith, edge_there r)
 
         pub run_stop : (v u : ℕ) → v ≡ u → u ≡ u32_at b o → limit ≤ v → k ≡ run_below f b p limit
         run_stop v u q r h = walk_bad (at start 5) under n k o w l (rw (← w.here, ← r, ← q) (le-ltb v limit h)) ∙ same_run
@@ -142,12 +135,12 @@ module _ (b : List ℕ) (limit n start : ℕ) where
   pub run_next : (k o : ℕ) → Run k o → k < n → (v u : ℕ) → v ≡ u → u ≡ u32_at b o → v < limit → Run (k + 1) (o + 5)
   run_next k o w l v u q r h = walk_next (at start 5) under n k o w (o + 5) l (rw (← w.here, ← r, ← q) (lt-ltb v limit h)) (omega (arith, w.here, at_next start 5 k))
 
-pub run_there : (b : List ℕ) (limit n start k o : ℕ) → Run b limit n start k o → k < n → (f : Form) (p x y : ℕ) → start ≡ edge_offset f b p → n ≡ x - p → x ≡ y
-    → y ≡ edge_count b → CheckedNetwork f b → o + 4 ≤ length b
-run_there b limit n start k o w l f p x y s m e d c = omega (arith, edge_there b limit n start f p x y e d m s k o w l c)
+pub run_there : (b : List ℕ) (limit n start k o : ℕ) → Run b limit n start k o → k < n → (f : Form) (p x : ℕ) → start ≡ edge_offset f b p → n ≡ x - p
+    → x ≡ edge_count b → Room f b → o + 4 ≤ length b
+run_there b limit n start k o w l f p x s m e c = omega (arith, edge_there b limit n start f p x e m s k o w l c)
 
-pub run_rest : (b : List ℕ) (p x y : ℕ) → x ≡ y → y ≡ edge_count b → p ≤ edge_count b → p ≤ x
-run_rest b p x y e d l = omega arith
+pub run_rest : (b : List ℕ) (p x : ℕ) → x ≡ edge_count b → p ≤ edge_count b → p ≤ x
+run_rest b p x e l = omega arith
 
 pub ruleset run_looking = (run_rest, run_start, run_end, run_sum, run_stop, run_next)
 
@@ -243,11 +236,11 @@ module _ (f : Form) (first second : List ℕ) (two : Two f first second) (apart 
   stuck z true false u v =
       let l = ltb-true p (edge_count first) u in
       let other : j ≡ 4294967296 = d ∙ rw v refl in
-      absurd (omega (arith, run_none f first p j l (sym e ∙ z), key_low f first two.one p, other))
+      absurd (omega (arith, run_none f first p j l (sym e ∙ z), key_low f first p two.one, other))
   stuck z false t u v =
       let n = ltb-false p (edge_count first) u in
       let one : i ≡ 4294967296 = mine z ∙ rw u refl in
-      second_below (omega arith) (omega (arith, one, key_low f second two.other q))
+      second_below (omega arith) (omega (arith, one, key_low f second q two.other))
 
   progress : 1 ≤ a + b
   progress = go (leb 1 a) refl

@@ -47,11 +47,8 @@ abbrev pub node_tables : Form → List ℕ → List ℕ → Tables (Box Route De
 node_tables f first second =
     record { key = box_id; meet = meeting; top = 65536; width = node_width f; one = node_table f first; other = node_table f second }
 
-module _ (f : Form) (b : List ℕ) (c : CheckedNetwork f b) (p : ℕ) where
-  module _ (n m : ℕ) (e : n ≡ m) (d : m ≡ node_count b) where
-    pub front_row : p < n → p < node_count b
-    front_row l = omega arith
-
+module _ (f : Form) (b : List ℕ) (p : ℕ) where
+  module _ (n : ℕ) (e : n ≡ node_count b) where
     pub front_id_lem : p < n → (x y : ℕ) → x ≡ y → y ≡ node_id f b p → x ≡ front_id f b p
     unfolding front_id
     front_id_lem l x y q r = rw (lt-ltb p (node_count b) (omega arith)) (q ∙ r)
@@ -60,17 +57,21 @@ module _ (f : Form) (b : List ℕ) (c : CheckedNetwork f b) (p : ℕ) where
     unfolding front_id
     front_none l = rw (le-ltb p (node_count b) (omega arith)) refl
 
-  pub id_low : (x y : ℕ) → x ≡ y → y ≡ node_id f b p → x ≤ 65536
-  unfolding node_id
-  id_low x y q r = omega (arith, u16_below b (node_offset f b p) (c.bytes _, c.bytes _))
+  -- read by the form of a record that has the same one
+  pub id_form : (g : Form) → g ≡ f → (x : ℕ) → x ≡ front_id g b p → x ≡ front_id f b p
+  id_form g one x e = rw one at e
 
-  pub node_at : (o : ℕ) → p < node_count b → o ≡ node_offset f b p → NodeAt f b o
+  pub node_at : CheckedNetwork f b → (o : ℕ) → p < node_count b → o ≡ node_offset f b p → NodeAt f b o
   unfolding node_ok
-  node_at o l e =
+  node_at c o l e =
       let sound = and_r (leb (least (node_id f b) p) (node_id f b p)) (node_formed f.route b (node_offset f b p)) (c.sound.nodes p l) in
       record { usable = c.room.usable; bytes = c.bytes; there = rw e (node_room f b c.room p l); formed = rw e sound }
 
-pub ruleset id_fronts = (front_row, front_id_lem, front_none, id_low)
+  -- read by the form of a record that has the same one
+  pub other_at : CheckedNetwork f b → (g : Form) → g ≡ f → (o : ℕ) → p < node_count b → o ≡ node_offset g b p → NodeAt f b o
+  other_at c g one o l e = node_at c o l (rw one at e)
+
+pub ruleset id_fronts = (front_id_lem, front_none)
 
 -- a node's kind is there
 pub kind_there : (f : Form) (b : List ℕ) (o : ℕ) → NodeAt f b o → o + 2 < length b
@@ -186,14 +187,14 @@ module _ (f : Form) (first second : List ℕ) where
     unfolding lower_box
     next_first l at a = rw (← e, ← d, lt-ltb i j l, a) refl
 
-    pub next_second : j < i → (bt : ℕ) → bt ≡ node_offset f second q → box_at f.route second bt ≡ lower_box f first second p q
+    pub next_second : j < i → (g : Form) → g ≡ f → (bt : ℕ) → bt ≡ node_offset g second q → box_at f.route second bt ≡ lower_box f first second p q
     unfolding lower_box
-    next_second l bt b = rw (← e, ← d, le-ltb i j (omega arith), lt-ltb j i l, b) refl
+    next_second l g one bt b = rw (← e, ← d, le-ltb i j (omega arith), lt-ltb j i l, b, one) refl
 
-    pub next_both : j ≤ i → i ≤ j → (at bt : ℕ) → at ≡ node_offset f first p → bt ≡ node_offset f second q
+    pub next_both : j ≤ i → i ≤ j → (g : Form) → g ≡ f → (at bt : ℕ) → at ≡ node_offset f first p → bt ≡ node_offset g second q
         → meeting (box_at f.route first at) (box_at f.route second bt) ≡ lower_box f first second p q
     unfolding lower_box
-    next_both l g at bt a b = rw (← e, ← d, le-ltb i j l, le-ltb j i g, a, b) refl
+    next_both l m g one at bt a b = rw (← e, ← d, le-ltb i j l, le-ltb j i m, a, b, one) refl
 
   -- the loop
   abbrev pub NodeMerge : ℕ → List ℕ → List ℕ → ℕ → ℕ → ℕ → ℕ → Type 0
@@ -260,6 +261,6 @@ module _ (f : Form) (first second : List ℕ) (two : Two f first second) (nodes 
       let within = c.other_within in
       omega (arith, count_most t)
 
-pub ruleset node_lower = (node_at, lower_first, lower_second, level_first, level_second, next_first, next_second, next_both, box_size, box_laid)
+pub ruleset node_lower = (node_at, other_at, lower_first, lower_second, level_first, level_second, next_first, next_second, next_both, box_size, box_laid)
 
-pub ruleset node_merging = (nodes_start, nodes_size, nodes_done, nodes_left, nodes_at, nodes_room, nodes_sum, nodes_next, first_sum, second_sum)
+pub ruleset node_merging = (id_form, nodes_start, nodes_size, nodes_done, nodes_left, nodes_at, nodes_room, nodes_sum, nodes_next, first_sum, second_sum)

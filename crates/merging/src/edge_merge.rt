@@ -7,17 +7,19 @@ ghost use Rattle.merging.specs.Merged.{edges_merged};
 ghost use Rattle.merging.specs.Runs.{run_below, run_bytes, gone_first, gone_second, turn_bytes, KeysApart};
 
 use crate::front::front_key;
-use layout::{EDGE_WIDTH, EDGES_FIELD, Form, edge_offset};
+use layout::EDGE_WIDTH;
 use matching::Pair;
-use numbers::{put_part, stride, u16_at, u32_at};
+use nodes::NetworkRecord;
+use numbers::{put_part, stride, u32_at};
 
 // How many edges from row p on have a key below a limit.
-fn run_below(form: Form, b: &[u8], p: usize, limit: usize) -> usize
-    requires { CheckedNetwork form b.now × (p ≤ edge_count b.now) }
-    ensures { result ≡ run_below form b.now p limit }
+fn run_below(network: &NetworkRecord, p: usize, limit: usize) -> usize
+    requires { p ≤ edge_count network.now.bytes.now }
+    ensures { result ≡ run_below network.now.form network.now.bytes.now p limit }
 {
-    let n = usize::from(u16_at(b, EDGES_FIELD)) - p;
-    let mut at = edge_offset(form, b, p);
+    let b = network.bytes;
+    let n = network.edge_count() - p;
+    let mut at = network.edge_offset(p);
     for k in 0..n {
         if limit <= u32_at(b, at) as usize {
             return k;
@@ -28,14 +30,15 @@ fn run_below(form: Form, b: &[u8], p: usize, limit: usize) -> usize
 }
 
 // The k edges from row p on, as they stand. Answers how many bytes they are.
-fn put_run(form: Form, b: &[u8], p: usize, k: usize, out: &mut [u8]) -> usize
-    requires { CheckedNetwork form b.now × (p + k ≤ edge_count b.now) × (length (run_bytes form b.now p k) ≤ length out.old) }
-    ensures size { result ≡ length (run_bytes form b.now p k) }
-    ensures laid { out.new ≡ over (run_bytes form b.now p k) out.old }
+fn put_run(network: &NetworkRecord, p: usize, k: usize, out: &mut [u8]) -> usize
+    requires checked { CheckedNetwork network.now.form network.now.bytes.now }
+    requires within { p + k ≤ edge_count network.now.bytes.now }
+    requires room { length (run_bytes network.now.form network.now.bytes.now p k) ≤ length out.old }
+    ensures size { result ≡ length (run_bytes network.now.form network.now.bytes.now p k) }
+    ensures laid { out.new ≡ over (run_bytes network.now.form network.now.bytes.now p k) out.old }
 {
-    let at = edge_offset(form, b, p);
     let size = stride(0, EDGE_WIDTH, k);
-    put_part(out, 0, b, at, size);
+    put_part(out, 0, network.bytes, network.edge_offset(p), size);
     size
 }
 
@@ -48,21 +51,17 @@ struct Gone {
 
 // One turn, from rows p and q on: the edges of the first network below the second's front, and then the other way round.
 fn lay_turn(pair: Pair, p: usize, q: usize, out: &mut [u8]) -> Gone
-    requires within { (p ≤ edge_count pair.first.now) × (q ≤ edge_count pair.second.now) }
-    requires room { length (turn_bytes pair.form pair.first.now pair.second.now p q) ≤ length out.old }
-    ensures first { let t = pair.entry in result.first ≡ gone_first t.form t.first.now t.second.now p q }
-    ensures second { let t = pair.entry in result.second ≡ gone_second t.form t.first.now t.second.now p q }
-    ensures laid { let t = pair.entry in out.new ≡ over (turn_bytes t.form t.first.now t.second.now p q) out.old }
+    requires within { (p ≤ edge_count pair.first.bytes.now) × (q ≤ edge_count pair.second.bytes.now) }
+    requires room { length (turn_bytes pair.first.form pair.first.bytes.now pair.second.bytes.now p q) ≤ length out.old }
+    ensures first { let t = pair.entry in result.first ≡ gone_first t.first.form t.first.bytes.now t.second.bytes.now p q }
+    ensures second { let t = pair.entry in result.second ≡ gone_second t.first.form t.first.bytes.now t.second.bytes.now p q }
+    ensures laid { let t = pair.entry in out.new ≡ over (turn_bytes t.first.form t.first.bytes.now t.second.bytes.now p q) out.old }
 {
-    let Pair {
-        form,
-        first,
-        second,
-    } = pair;
-    let a = run_below(form, first, p, front_key(form, second, q));
-    let size = put_run(form, first, p, a, out);
-    let b = run_below(form, second, q, front_key(form, first, p + a));
-    put_run(form, second, q, b, &mut out[size..]);
+    let Pair { first, second } = pair;
+    let a = run_below(&first, p, front_key(&second, q));
+    let size = put_run(&first, p, a, out);
+    let b = run_below(&second, q, front_key(&first, p + a));
+    put_run(&second, q, b, &mut out[size..]);
     Gone {
         first: a,
         second: b,
@@ -71,10 +70,10 @@ fn lay_turn(pair: Pair, p: usize, q: usize, out: &mut [u8]) -> Gone
 
 // The edges of both, of which there are so many and no two have one key.
 pub fn merge_edges(pair: Pair, edges: usize, out: &mut [u8])
-    requires apart { KeysApart pair.form pair.first.now pair.second.now }
-    requires counted { edges ≡ edge_count pair.first.now + edge_count pair.second.now }
-    requires room { length (edges_merged pair.form pair.first.now pair.second.now) ≤ length out.old }
-    ensures { let t = pair.entry in out.new ≡ over (edges_merged t.form t.first.now t.second.now) out.old }
+    requires apart { KeysApart pair.first.form pair.first.bytes.now pair.second.bytes.now }
+    requires counted { edges ≡ edge_count pair.first.bytes.now + edge_count pair.second.bytes.now }
+    requires room { length (edges_merged pair.first.form pair.first.bytes.now pair.second.bytes.now) ≤ length out.old }
+    ensures { let t = pair.entry in out.new ≡ over (edges_merged t.first.form t.first.bytes.now t.second.bytes.now) out.old }
 {
     let mut p = 0;
     let mut q = 0;

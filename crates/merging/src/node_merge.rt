@@ -9,23 +9,20 @@ ghost use Rattle.merging.specs.Front.{front_id};
 ghost use Rattle.merging.specs.Merged.{joined_in, nodes_merged, met_at, Left, lower_box};
 
 use crate::front::front_id;
-use layout::node_offset;
 use matching::Pair;
 use nodes::own_at;
 use writing::put_node;
 
 // Of two nodes with one id the one that stays: an input that the second network owns gives way to its owner.
 fn put_meeting(pair: Pair, at: usize, bt: usize, out: &mut [u8]) -> usize
-    requires nodes { NodeAt pair.form pair.first.now at × NodeAt pair.form pair.second.now bt }
-    requires room { node_width pair.form ≤ length out.old }
-    ensures size { let t = pair.entry in result ≡ length (box_bytes t.form.route (met_at t.form t.first.now at t.second.now bt)) }
-    ensures laid { let t = pair.entry in out.new ≡ over (box_bytes t.form.route (met_at t.form t.first.now at t.second.now bt)) out.old }
+    requires nodes { NodeAt pair.first.form pair.first.bytes.now at × NodeAt pair.first.form pair.second.bytes.now bt }
+    requires room { node_width pair.first.form ≤ length out.old }
+    ensures size { let t = pair.entry in result ≡ length (box_bytes t.first.form.route (met_at t.first.form t.first.bytes.now at t.second.bytes.now bt)) }
+    ensures laid { let t = pair.entry in out.new ≡ over (box_bytes t.first.form.route (met_at t.first.form t.first.bytes.now at t.second.bytes.now bt)) out.old }
 {
-    let Pair {
-        form,
-        first,
-        second,
-    } = pair;
+    let form = pair.first.form;
+    let first = pair.first.bytes;
+    let second = pair.second.bytes;
     if own_at(first, at) {
         return put_node(form, first, at, out);
     }
@@ -37,41 +34,36 @@ fn put_meeting(pair: Pair, at: usize, bt: usize, out: &mut [u8]) -> usize
 
 // The node at the lower of the fronts i and j, in rows p and q.
 fn put_lower(pair: Pair, p: usize, i: usize, q: usize, j: usize, out: &mut [u8]) -> usize
-    requires left { Left pair.form pair.first.now pair.second.now p (node_count pair.first.now) q (node_count pair.second.now) }
-    requires fronts { (i ≡ front_id pair.form pair.first.now p) × (j ≡ front_id pair.form pair.second.now q) }
-    requires room { node_width pair.form ≤ length out.old }
-    ensures size { let t = pair.entry in result ≡ length (box_bytes t.form.route (lower_box t.form t.first.now t.second.now p q)) }
-    ensures laid { let t = pair.entry in out.new ≡ over (box_bytes t.form.route (lower_box t.form t.first.now t.second.now p q)) out.old }
+    requires left { Left pair.first.form pair.first.bytes.now pair.second.bytes.now p (node_count pair.first.bytes.now) q (node_count pair.second.bytes.now) }
+    requires fronts { (i ≡ front_id pair.first.form pair.first.bytes.now p) × (j ≡ front_id pair.first.form pair.second.bytes.now q) }
+    requires room { node_width pair.first.form ≤ length out.old }
+    ensures size { let t = pair.entry in result ≡ length (box_bytes t.first.form.route (lower_box t.first.form t.first.bytes.now t.second.bytes.now p q)) }
+    ensures laid { let t = pair.entry in out.new ≡ over (box_bytes t.first.form.route (lower_box t.first.form t.first.bytes.now t.second.bytes.now p q)) out.old }
 {
-    let Pair {
-        form,
-        first,
-        second,
-    } = pair;
+    let Pair { first, second } = pair;
+    let form = first.form;
     if i < j {
-        return put_node(form, first, node_offset(form, first, p), out);
+        return put_node(form, first.bytes, first.node_offset(p), out);
     }
     if j < i {
-        return put_node(form, second, node_offset(form, second, q), out);
+        return put_node(form, second.bytes, second.node_offset(q), out);
     }
-    let at = node_offset(form, first, p);
-    let bt = node_offset(form, second, q);
-    put_meeting(pair, at, bt, out)
+    put_meeting(pair, first.node_offset(p), second.node_offset(q), out)
 }
 
 // The nodes of both, of which there are so many. Answers how many bytes they are.
 pub fn merge_nodes(pair: Pair, nodes: usize, out: &mut [u8]) -> usize
-    requires counted { nodes ≡ length (joined_in pair.form pair.first.now pair.second.now).boxes }
-    requires room { length (nodes_merged pair.form pair.first.now pair.second.now) ≤ length out.old }
-    ensures size { let t = pair.entry in result ≡ length (nodes_merged t.form t.first.now t.second.now) }
-    ensures laid { let t = pair.entry in out.new ≡ over (nodes_merged t.form t.first.now t.second.now) out.old }
+    requires counted { nodes ≡ length (joined_in pair.first.form pair.first.bytes.now pair.second.bytes.now).boxes }
+    requires room { length (nodes_merged pair.first.form pair.first.bytes.now pair.second.bytes.now) ≤ length out.old }
+    ensures size { let t = pair.entry in result ≡ length (nodes_merged t.first.form t.first.bytes.now t.second.bytes.now) }
+    ensures laid { let t = pair.entry in out.new ≡ over (nodes_merged t.first.form t.first.bytes.now t.second.bytes.now) out.old }
 {
     let mut p = 0;
     let mut q = 0;
     let mut o = 0;
     for _ in 0..nodes {
-        let i = front_id(pair.form, pair.first, p);
-        let j = front_id(pair.form, pair.second, q);
+        let i = front_id(&pair.first, p);
+        let j = front_id(&pair.second, q);
         o += put_lower(pair, p, i, q, j, &mut out[o..]);
         p += usize::from(i <= j);
         q += usize::from(j <= i);

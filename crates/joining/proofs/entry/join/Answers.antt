@@ -1,4 +1,5 @@
 -- The refusals of the two records, and what is said of both where neither is refused.
+use Rattle.std.proofs.Common.{refl}
 use Rattle.std.proofs.lemmas.Result.{err_from_is_err_and}
 use Rattle.records.proofs.Checked.{rows_checked}
 use Rattle.joining.proofs.CheckLaws.{first_refused, first_kept, second_refused, second_kept, both_answer, both_buffer, second_rows}
@@ -28,22 +29,39 @@ returns-in_err-check_network_rows c =
 pub invariant_of-pair : goal.invariant_of-pair
 invariant_of-pair c =
     let n = c.check_network_rows in
-    let m = c.check_network_rows-2 in
-    record {
-      first_checked = (rows_checked n.result _ c.in_ok-form.was _ n.ensures.numbers (λ i. (c.type_inv.first i).fits) _ _ n.ensures.table).checked;
-      second_checked =
-          (second_rows _ _ n.result n.ensures.numbers _ c.in_ok-form.was m.result m.ensures.numbers _ c.in_ok-check_network_rows.was
-          (λ i. (c.type_inv.second i).fits) _ _ m.ensures.table).checked;
-    }
+    let one = rows_checked n.result _ c.in_ok-form.was _ n.ensures.numbers (λ i. (c.type_inv.first i).fits) _ _ n.ensures.table in
+    record { room = one.checked.room }
 
-pub join_checked-requires : goal.join_checked-requires
-join_checked-requires c =
+pub invariant_of-pair-2 : goal.invariant_of-pair-2
+invariant_of-pair-2 c =
     let n = c.check_network_rows in
-    let m = c.check_network_rows-2 in (
-      (rows_checked n.result _ c.in_ok-form.was _ n.ensures.numbers (λ i. (c.type_inv.first i).fits) _ _ n.ensures.table).filled,
-      (second_rows _ _ n.result n.ensures.numbers _ c.in_ok-form.was m.result m.ensures.numbers _ c.in_ok-check_network_rows.was
-          (λ i. (c.type_inv.second i).fits) _ _ m.ensures.table).filled,
-    )
+    let m = c.check_network_rows-2 in
+    let other = second_rows _ _ n.result n.ensures.numbers _ c.in_ok-form.was m.result m.ensures.numbers _ c.in_ok-check_network_rows.was
+    (λ i. (c.type_inv.second i).fits) _ _ m.ensures.table in
+    record { room = other.checked.room }
+
+pub invariant_of-pair-3 : goal.invariant_of-pair-3
+invariant_of-pair-3 c =
+    let n = c.check_network_rows in
+    let one = rows_checked n.result _ c.in_ok-form.was _ n.ensures.numbers (λ i. (c.type_inv.first i).fits) _ _ n.ensures.table in
+    record { tabled = record { room = one.checked.room; filled = one.filled } }
+
+pub invariant_of-pair-4 : goal.invariant_of-pair-4
+invariant_of-pair-4 c =
+    let n = c.check_network_rows in
+    let m = c.check_network_rows-2 in
+    let other = second_rows _ _ n.result n.ensures.numbers _ c.in_ok-form.was m.result m.ensures.numbers _ c.in_ok-check_network_rows.was
+    (λ i. (c.type_inv.second i).fits) _ _ m.ensures.table in
+    record { tabled = record { room = other.checked.room; filled = other.filled } }
+
+pub invariant_of-pair-5 : goal.invariant_of-pair-5
+invariant_of-pair-5 c =
+    let n = c.check_network_rows in
+    let m = c.check_network_rows-2 in
+    let one = rows_checked n.result _ c.in_ok-form.was _ n.ensures.numbers (λ i. (c.type_inv.first i).fits) _ _ n.ensures.table in
+    let other = second_rows _ _ n.result n.ensures.numbers _ c.in_ok-form.was m.result m.ensures.numbers _ c.in_ok-check_network_rows.was
+    (λ i. (c.type_inv.second i).fits) _ _ m.ensures.table in
+    record { one_form = refl; first_checked = one.checked; second_checked = other.checked }
 
 pub returns : goal.returns
 returns c =

@@ -9,5 +9,5 @@ returns-then-twice-n-clause-answer c = search (rules, joining_21)
 pub returns-then-twice-n-clause-buffer : goal.returns-then-twice-n-clause-buffer
 returns-then-twice-n-clause-buffer c = search (rules, joining_21)
 
-pub join_apart-requires-clause-apart : goal.join_apart-requires-clause-apart
-join_apart-requires-clause-apart c = search (rules, joining_21)
+pub join_apart-requires : goal.join_apart-requires
+join_apart-requires c = search (rules, joining_21)

@@ -5,4 +5,4 @@ use Rattle.layout.specs.Layout.{node_count}
 use Rattle.matching.proofs.rows.first_twice.Given as goal
 
 abbrev pub invariant-loop-i : goal.invariant-loop-i
-invariant-loop-i l = Seek (owned_once l.pair.form l.pair.first.now l.pair.second.now) (node_count l.pair.first.now) l.i
+invariant-loop-i l = Seek (owned_once l.network.form l.network.bytes.now l.other.network.bytes.now) (node_count l.network.bytes.now) l.i

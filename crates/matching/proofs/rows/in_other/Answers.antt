@@ -1,7 +1,7 @@
--- The table tells whether the other network has the id (in_table).
-use Rattle.matching.proofs.RowLaws.{in_table}
+-- Whether the other network has the id (id_shared).
+use Rattle.matching.proofs.RowLaws.{id_shared}
 use borrow.Author.Rules.{rules}
 use Rattle.matching.proofs.rows.in_other.Goals as goal
 
 pub returns : goal.returns
-returns c = search (rules, in_table)
+returns c = search (rules, id_shared)

@@ -6,5 +6,5 @@ use Rattle.matching.proofs.rows.owned_once.Goals as goal
 pub returns-then-not-is_own : goal.returns-then-not-is_own
 returns-then-not-is_own c = search (rules, once_laws)
 
-pub returns : goal.returns
-returns c = search (rules, once_laws)
+pub returns-else-not-is_own : goal.returns-else-not-is_own
+returns-else-not-is_own c = search (rules, once_laws)

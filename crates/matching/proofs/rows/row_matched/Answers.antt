@@ -6,8 +6,8 @@ use Rattle.matching.proofs.rows.row_matched.Goals as goal
 pub returns-then-is_own : goal.returns-then-is_own
 returns-then-is_own c = search (rules, field_rooms, matching_row)
 
-pub returns-then-rows-from-eq0 : goal.returns-then-rows-from-eq0
-returns-then-rows-from-eq0 c = search (rules, field_rooms, matching_row)
+pub returns-then-not-is_boxed : goal.returns-then-not-is_boxed
+returns-then-not-is_boxed c = search (rules, field_rooms, matching_row)
 
 pub route_at-assumed-requires : goal.route_at-assumed-requires
 route_at-assumed-requires c = search (rules, field_rooms, matching_row)

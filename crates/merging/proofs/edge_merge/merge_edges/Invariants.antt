@@ -4,7 +4,7 @@ use Prim.Native.Nat.{◌+◌, ◌-◌}
 use Rattle.merging.proofs.edge_merge.merge_edges.Given as goal
 
 abbrev pub invariant-loop-p : goal.invariant-loop-p
-invariant-loop-p l = EdgeMerge l.pair.form l.pair.first.now l.pair.second.now l.initial.out l.out l.p l.q l.o
+invariant-loop-p l = EdgeMerge l.pair.first.form l.pair.first.bytes.now l.pair.second.bytes.now l.initial.out l.out l.p l.q l.o
 
 abbrev pub decreases-loop-p : goal.decreases-loop-p
 decreases-loop-p l = l.edges - (l.p + l.q)

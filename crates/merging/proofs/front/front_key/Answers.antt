@@ -6,8 +6,8 @@ use Rattle.merging.proofs.front.front_key.Goals as goal
 pub u32_at-requires : goal.u32_at-requires
 u32_at-requires c = search (rules, key_fronts)
 
-pub returns-then-p-from : goal.returns-then-p-from
-returns-then-p-from c = search (rules, key_fronts)
+pub returns-then-p-edge_count : goal.returns-then-p-edge_count
+returns-then-p-edge_count c = search (rules, key_fronts)
 
 pub returns : goal.returns
 returns c = search (rules, key_fronts)

@@ -22,8 +22,9 @@ overflow_add-o c = search (rules, node_merging)
 pub loop-preserved : goal.loop-preserved
 loop-preserved c =
     let pair = c.args.pair in
+    let other = rw pair.one_form at c.front_id-j.ensures.0 in
     nodes_next _ _ _ _ _ _ _ _ _ _ c.loop.invariant (search rules) (search rules) record { one = pair.first_checked; other = pair.second_checked }
-    _ c.put_lower-o.ensures.size _ c.put_lower-o.ensures.laid _ _ _ _ c.front_id-i.ensures.0 c.front_id-j.ensures.0 c.from-p.ensures c.from-q.ensures
+    _ c.put_lower-o.ensures.size _ c.put_lower-o.ensures.laid _ _ _ _ c.front_id-i.ensures.0 other c.from-p.ensures c.from-q.ensures
 
 pub returns-clause-size : goal.returns-clause-size
 returns-clause-size c = search (rules, node_merging)

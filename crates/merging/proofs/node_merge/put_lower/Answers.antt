@@ -22,7 +22,7 @@ pub returns-then-j-i-clause-laid : goal.returns-then-j-i-clause-laid
 returns-then-j-i-clause-laid c = search (rules, node_lower)
 
 pub put_meeting-requires-clause-nodes : goal.put_meeting-requires-clause-nodes
-put_meeting-requires-clause-nodes c = search (rules, node_lower)
+put_meeting-requires-clause-nodes c = (search (rules, node_lower), search node_lower)
 
 pub returns-clause-size : goal.returns-clause-size
 returns-clause-size c = search (rules, node_lower)
