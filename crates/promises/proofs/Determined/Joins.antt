@@ -11,19 +11,19 @@ use Rattle.merging.proofs.merge_nodes.Reads as merge_nodes
 use Rattle.merging.proofs.merge_edges.Reads as merge_edges
 use Rattle.promises.specs.Determined.{One}
 
-pub one_first_twice : (κs : Lfts 2) → One (first_twice.Post κs) (λ r e. r)
+pub one_first_twice : (κs : Lfts 5) → One (first_twice.Post κs) (λ r e. r)
 one_first_twice κs a r r' e e' p q = cc
 
-pub one_first_unmatched : (κs : Lfts 2) → One (first_unmatched.Post κs) (λ r e. r)
+pub one_first_unmatched : (κs : Lfts 5) → One (first_unmatched.Post κs) (λ r e. r)
 one_first_unmatched κs a r r' e e' p q = cc
 
-pub one_shared_rows : (κs : Lfts 2) → One (shared_rows.Post κs) (λ r e. r)
+pub one_shared_rows : (κs : Lfts 5) → One (shared_rows.Post κs) (λ r e. r)
 one_shared_rows κs a r r' e e' p q = cc
 
 pub one_alike_policies : (κs : Lfts 1) → One (alike_policies.Post κs) (λ r e. r)
 one_alike_policies κs a r r' e e' p q = cc
 
-pub one_front_id : (κs : Lfts 1) → One (front_id.Post κs) (λ r e. r)
+pub one_front_id : (κs : Lfts 2) → One (front_id.Post κs) (λ r e. r)
 one_front_id κs a r r' e e' p q = cc
 
 pub one_merge_nodes : (κs : Lfts 2) → One {B = ℕ × List ℕ} (merge_nodes.Post κs) (λ r e. (r, e.1.1.0.now))

@@ -31,19 +31,19 @@ one_box_route κs a r r' e e' p q = cc
 pub one_named_part : (κs : Lfts 3) → One (named_part.Post κs) (λ r e. r.now)
 one_named_part κs a r r' e e' p q = cc
 
-pub one_own_box : (κs : Lfts 1) → One (own_box.Post κs) (λ r e. r)
+pub one_own_box : (κs : Lfts 2) → One (own_box.Post κs) (λ r e. r)
 one_own_box κs a r r' e e' p q = cc
 
 pub one_fault_at : (κs : Lfts 3) → One (fault_at.Post κs) (λ r e. r)
 one_fault_at κs a r r' e e' p q = one_fault _ r r' p q
 
-pub one_first_wire : (κs : Lfts 1) → One (first_wire.Post κs) (λ r e. r)
+pub one_first_wire : (κs : Lfts 2) → One (first_wire.Post κs) (λ r e. r)
 one_first_wire κs a r r' e e' p q = cc
 
-pub one_wire_behind : (κs : Lfts 1) → One (wire_behind.Post κs) (λ r e. r)
+pub one_wire_behind : (κs : Lfts 2) → One (wire_behind.Post κs) (λ r e. r)
 one_wire_behind κs a r r' e e' p q = cc
 
-pub one_wire_into : (κs : Lfts 1) → One (wire_into.Post κs) (λ r e. r)
+pub one_wire_into : (κs : Lfts 2) → One (wire_into.Post κs) (λ r e. r)
 one_wire_into κs a r r' e e' p q = cc
 
 pub one_offer : (κs : Lfts 3) → One (offer.Post κs) (λ r e. r)

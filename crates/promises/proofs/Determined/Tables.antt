@@ -18,7 +18,7 @@ use Rattle.preparing.proofs.GivenLaws.{prepare_once}
 use Rattle.preparing.proofs.prepare.Reads as prepare
 use Rattle.promises.specs.Determined.{One}
 
-pub one_fill_rows : (κs : Lfts 2) → One (λ a r e. fill_rows.Post κs a r e × (length e.1.1.0.now ≡ 65536)) (λ r e. e.1.1.0.now)
+pub one_fill_rows : (κs : Lfts 3) → One (λ a r e. fill_rows.Post κs a r e × (length e.1.0.now ≡ 65536)) (λ r e. e.1.0.now)
 one_fill_rows κs a r r' e e' p q = filled_once _ _ _ _ p.1 q.1 p.0 q.0
 
 pub one_check_network_rows : (κs : Lfts 2)
