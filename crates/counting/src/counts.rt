@@ -29,7 +29,8 @@ fn is_route(route: Route) -> bool
 // Whether the node in a row holds a route: an own box by the list, an input by assumption.
 fn carries(proposal: &Proposal<'_, '_>, i: usize) -> bool
     requires { i < node_count proposal.now.network.bytes.now }
-    ensures { result ≡ is_route (house highest) (mapping (house highest) (read_network proposal.now.network.form proposal.now.network.bytes.now) (read_list proposal.now.network.form proposal.now.list.now) (node_id proposal.now.network.form proposal.now.network.bytes.now i)) }
+    ensures { let n = proposal.now.network in let list = read_list n.form proposal.now.list.now in
+        result ≡ is_route (house highest) (mapping (house highest) (read_network n.form n.bytes.now) list (node_id n.form n.bytes.now i)) }
 {
     is_route(route_at(proposal.network.form.route, proposal.row_part(i), 0))
 }

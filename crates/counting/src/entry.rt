@@ -38,8 +38,8 @@ fn place_pass(proposal: &Proposal<'_, '_>, tally: Tally, out: &mut [u8]) -> usiz
 
 // Judges a list that judging does not refuse, and places its census.
 fn place_judged(lookup: &Lookup<'_, '_>, out: &mut [u8]) -> usize
-    ensures count { result ≡ length (census_from lookup.now.proposal.network.form lookup.now.proposal.network.bytes.now lookup.now.proposal.list.now (verdict_at lookup.now.proposal.network.form lookup.now.proposal.network.bytes.now lookup.now.proposal.list.now)) }
-    ensures text { out.new ≡ placed (census_from lookup.now.proposal.network.form lookup.now.proposal.network.bytes.now lookup.now.proposal.list.now (verdict_at lookup.now.proposal.network.form lookup.now.proposal.network.bytes.now lookup.now.proposal.list.now)) out.old }
+    ensures count { let p = lookup.now.proposal in let n = p.network in result ≡ length (census_from n.form n.bytes.now p.list.now (verdict_at n.form n.bytes.now p.list.now)) }
+    ensures text { let p = lookup.now.proposal in let n = p.network in out.new ≡ placed (census_from n.form n.bytes.now p.list.now (verdict_at n.form n.bytes.now p.list.now)) out.old }
 {
     let verdict = search(lookup);
     let Verdict::Pass(boxes) = verdict else {

@@ -75,7 +75,8 @@ fn put_silent(proposal: &Proposal<'_, '_>, i: usize, room: &mut [u8], at: usize)
 // These lines, by rising id.
 fn put_silents(proposal: &Proposal<'_, '_>, room: &mut [u8], at: usize) -> usize
     requires { at < 2 ^ 63 }
-    ensures { Written (joined (silent_row proposal.now.network.form proposal.now.network.bytes.now proposal.now.list.now) (node_count proposal.now.network.bytes.now)) room.old at room.new result }
+    ensures { let n = proposal.now.network in
+        Written (joined (silent_row n.form n.bytes.now proposal.now.list.now) (node_count n.bytes.now)) room.old at room.new result }
 {
     let mut next = at;
     for i in 0..proposal.network.node_count() {

@@ -24,7 +24,8 @@ impl Entered<'_> {
 
     // Stores the fragment number of each row.
     pub fn number_rows(self, fragments: &mut [u8; ROWS])
-        ensures { fragments.new ≡ table_after (with_fragment self.entry.network.form self.entry.network.bytes.now self.entry.sheet.now) (node_count self.entry.network.bytes.now) fragments.old }
+        ensures { let n = self.entry.network in
+            fragments.new ≡ table_after (with_fragment n.form n.bytes.now self.entry.sheet.now) (node_count n.bytes.now) fragments.old }
     {
         let n = self.network.node_count();
         for i in 0..n {

@@ -46,8 +46,10 @@ impl Wires<'_, '_> {
     // Marks the rows that the edges leave in both tables. Answers how many edges are the fragment's.
     pub fn mark_wires(self, leaves: &mut [u8; ROWS], feeds: &mut [u8; ROWS]) -> usize
         ensures kept { result ≡ count (entering self.entry) (edge_count self.entry.table.network.bytes.now) }
-        ensures left { leaves.new ≡ table_after (marked_by self.entry.table.network.form self.entry.table.network.bytes.now (crossing self.entry)) (edge_count self.entry.table.network.bytes.now) leaves.old }
-        ensures fed { feeds.new ≡ table_after (marked_by self.entry.table.network.form self.entry.table.network.bytes.now (entering self.entry)) (edge_count self.entry.table.network.bytes.now) feeds.old }
+        ensures left { let n = self.entry.table.network in
+            leaves.new ≡ table_after (marked_by n.form n.bytes.now (crossing self.entry)) (edge_count n.bytes.now) leaves.old }
+        ensures fed { let n = self.entry.table.network in
+            feeds.new ≡ table_after (marked_by n.form n.bytes.now (entering self.entry)) (edge_count n.bytes.now) feeds.old }
     {
         let network = self.table.network;
         let n = network.edge_count();

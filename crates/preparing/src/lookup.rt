@@ -97,7 +97,8 @@ impl<'a, 't> Lookup<'a, 't> {
     // The route bytes of the box with an id.
     pub fn box_part(&self, id: u16) -> &'a [u8]
         requires { boxed self.now.proposal.network.form self.now.proposal.network.bytes.now id ≡ true }
-        ensures { result.now ≡ row_part self.now.proposal.network.form self.now.proposal.network.bytes.now self.now.proposal.list.now (row_of self.now.proposal.network.form self.now.proposal.network.bytes.now id) }
+        ensures { let p = self.now.proposal in let n = p.network in
+            result.now ≡ row_part n.form n.bytes.now p.list.now (row_of n.form n.bytes.now id) }
     {
         self.proposal.row_part(self.table().row_in(id))
     }
@@ -105,7 +106,8 @@ impl<'a, 't> Lookup<'a, 't> {
     // The route that the box with an id holds: an own box by the list, an input by assumption.
     pub fn box_route(&self, id: u16) -> Route
         requires { boxed self.now.proposal.network.form self.now.proposal.network.bytes.now id ≡ true }
-        ensures { result ≡ mapping (house highest) (read_network self.now.proposal.network.form self.now.proposal.network.bytes.now) (read_list self.now.proposal.network.form self.now.proposal.list.now) id }
+        ensures { let p = self.now.proposal in let n = p.network in
+            result ≡ mapping (house highest) (read_network n.form n.bytes.now) (read_list n.form p.list.now) id }
     {
         route_at(self.proposal.network.form.route, self.box_part(id), 0)
     }
