@@ -19,8 +19,10 @@ fn join_alike(pair: TabledPair, out: &mut [u8]) -> Result<usize, Refusal>
     requires apart { Apart pair.first.network.form pair.first.network.bytes.now pair.second.network.bytes.now }
     requires matched { Matched pair.first.network.form pair.first.network.bytes.now pair.second.network.bytes.now }
     requires one_table { OneTable pair.first.network.form pair.first.network.bytes.now pair.second.network.bytes.now }
-    ensures answer { let p = pair.entry in outcome_of result ≡ record_answer p.first.network.form (length out.old) (join_said p.first.network.form p.first.network.bytes.now p.second.network.bytes.now) }
-    ensures buffer { let p = pair.entry in out.new ≡ laid_answer p.first.network.form (join_said p.first.network.form p.first.network.bytes.now p.second.network.bytes.now) out.old }
+    ensures answer { let a = pair.entry.first.network in let b = pair.entry.second.network in
+        outcome_of result ≡ record_answer a.form (length out.old) (join_said a.form a.bytes.now b.bytes.now) }
+    ensures buffer { let a = pair.entry.first.network in let b = pair.entry.second.network in
+        out.new ≡ laid_answer a.form (join_said a.form a.bytes.now b.bytes.now) out.old }
 {
     let first = pair.first.network;
     let second = pair.second.network;
@@ -49,8 +51,10 @@ fn join_alike(pair: TabledPair, out: &mut [u8]) -> Result<usize, Refusal>
 fn join_matched(pair: TabledPair, out: &mut [u8]) -> Result<usize, Refusal>
     requires apart { Apart pair.first.network.form pair.first.network.bytes.now pair.second.network.bytes.now }
     requires matched { Matched pair.first.network.form pair.first.network.bytes.now pair.second.network.bytes.now }
-    ensures answer { let p = pair.entry in outcome_of result ≡ record_answer p.first.network.form (length out.old) (join_said p.first.network.form p.first.network.bytes.now p.second.network.bytes.now) }
-    ensures buffer { let p = pair.entry in out.new ≡ laid_answer p.first.network.form (join_said p.first.network.form p.first.network.bytes.now p.second.network.bytes.now) out.old }
+    ensures answer { let a = pair.entry.first.network in let b = pair.entry.second.network in
+        outcome_of result ≡ record_answer a.form (length out.old) (join_said a.form a.bytes.now b.bytes.now) }
+    ensures buffer { let a = pair.entry.first.network in let b = pair.entry.second.network in
+        out.new ≡ laid_answer a.form (join_said a.form a.bytes.now b.bytes.now) out.old }
 {
     let first = pair.first.network;
     let second = pair.second.network;
@@ -65,8 +69,8 @@ fn join_matched(pair: TabledPair, out: &mut [u8]) -> Result<usize, Refusal>
 
 // The lowest id of which one network assumes what the other does not match.
 fn lowest_unmatched(pair: TabledPair) -> Option<usize>
-    ensures { let p = pair.entry in let lowest = lowest_unmatched p.first.network.form p.first.network.bytes.now p.second.network.bytes.now in
-        MatchOption result (65536 ≤ lowest) (λ place. (place ≡ lowest) × (place < 65536)) }
+    ensures { let a = pair.entry.first.network in let b = pair.entry.second.network in
+        let lowest = lowest_unmatched a.form a.bytes.now b.bytes.now in MatchOption result (65536 ≤ lowest) (λ place. (place ≡ lowest) × (place < 65536)) }
 {
     let first = pair.first.network;
     let second = pair.second.network;
@@ -79,8 +83,10 @@ fn lowest_unmatched(pair: TabledPair) -> Option<usize>
 // Numbers 22 to 24 and 20, or the record.
 fn join_apart(pair: TabledPair, out: &mut [u8]) -> Result<usize, Refusal>
     requires apart { Apart pair.first.network.form pair.first.network.bytes.now pair.second.network.bytes.now }
-    ensures answer { let p = pair.entry in outcome_of result ≡ record_answer p.first.network.form (length out.old) (join_said p.first.network.form p.first.network.bytes.now p.second.network.bytes.now) }
-    ensures buffer { let p = pair.entry in out.new ≡ laid_answer p.first.network.form (join_said p.first.network.form p.first.network.bytes.now p.second.network.bytes.now) out.old }
+    ensures answer { let a = pair.entry.first.network in let b = pair.entry.second.network in
+        outcome_of result ≡ record_answer a.form (length out.old) (join_said a.form a.bytes.now b.bytes.now) }
+    ensures buffer { let a = pair.entry.first.network in let b = pair.entry.second.network in
+        out.new ≡ laid_answer a.form (join_said a.form a.bytes.now b.bytes.now) out.old }
 {
     if let Some(place) = lowest_unmatched(pair) {
         return Err(Refusal {
@@ -93,8 +99,10 @@ fn join_apart(pair: TabledPair, out: &mut [u8]) -> Result<usize, Refusal>
 
 // Numbers 21 to 24 and 20, or the record.
 fn join_checked(pair: TabledPair, out: &mut [u8]) -> Result<usize, Refusal>
-    ensures answer { let p = pair.entry in outcome_of result ≡ record_answer p.first.network.form (length out.old) (join_said p.first.network.form p.first.network.bytes.now p.second.network.bytes.now) }
-    ensures buffer { let p = pair.entry in out.new ≡ laid_answer p.first.network.form (join_said p.first.network.form p.first.network.bytes.now p.second.network.bytes.now) out.old }
+    ensures answer { let a = pair.entry.first.network in let b = pair.entry.second.network in
+        outcome_of result ≡ record_answer a.form (length out.old) (join_said a.form a.bytes.now b.bytes.now) }
+    ensures buffer { let a = pair.entry.first.network in let b = pair.entry.second.network in
+        out.new ≡ laid_answer a.form (join_said a.form a.bytes.now b.bytes.now) out.old }
 {
     let first = pair.first.network;
     let n = first.node_count();
