@@ -21,7 +21,8 @@ fn join_alike(pair: TabledPair, out: &mut [u8]) -> Result<usize, Refusal>
     requires one_table { OneTable pair.first.network.form pair.first.network.bytes.now pair.second.network.bytes.now }
     ensures answer { let a = pair.entry.first.network in let b = pair.entry.second.network in
         outcome_of result ≡ record_answer a.form (length out.old) (join_said a.form a.bytes.now b.bytes.now) }
-    ensures buffer { let p = pair.entry in out.new ≡ laid_answer p.first.network.form (join_said p.first.network.form p.first.network.bytes.now p.second.network.bytes.now) out.old }
+    ensures buffer { let a = pair.entry.first.network in let b = pair.entry.second.network in
+        out.new ≡ laid_answer a.form (join_said a.form a.bytes.now b.bytes.now) out.old }
 {
     let first = pair.first.network;
     let second = pair.second.network;
@@ -52,7 +53,8 @@ fn join_matched(pair: TabledPair, out: &mut [u8]) -> Result<usize, Refusal>
     requires matched { Matched pair.first.network.form pair.first.network.bytes.now pair.second.network.bytes.now }
     ensures answer { let a = pair.entry.first.network in let b = pair.entry.second.network in
         outcome_of result ≡ record_answer a.form (length out.old) (join_said a.form a.bytes.now b.bytes.now) }
-    ensures buffer { let p = pair.entry in out.new ≡ laid_answer p.first.network.form (join_said p.first.network.form p.first.network.bytes.now p.second.network.bytes.now) out.old }
+    ensures buffer { let a = pair.entry.first.network in let b = pair.entry.second.network in
+        out.new ≡ laid_answer a.form (join_said a.form a.bytes.now b.bytes.now) out.old }
 {
     let first = pair.first.network;
     let second = pair.second.network;
@@ -67,8 +69,8 @@ fn join_matched(pair: TabledPair, out: &mut [u8]) -> Result<usize, Refusal>
 
 // The lowest id of which one network assumes what the other does not match.
 fn lowest_unmatched(pair: TabledPair) -> Option<usize>
-    ensures { let p = pair.entry in let lowest = lowest_unmatched p.first.network.form p.first.network.bytes.now p.second.network.bytes.now in
-        MatchOption result (65536 ≤ lowest) (λ place. (place ≡ lowest) × (place < 65536)) }
+    ensures { let a = pair.entry.first.network in let b = pair.entry.second.network in
+        let lowest = lowest_unmatched a.form a.bytes.now b.bytes.now in MatchOption result (65536 ≤ lowest) (λ place. (place ≡ lowest) × (place < 65536)) }
 {
     let first = pair.first.network;
     let second = pair.second.network;
@@ -83,7 +85,8 @@ fn join_apart(pair: TabledPair, out: &mut [u8]) -> Result<usize, Refusal>
     requires apart { Apart pair.first.network.form pair.first.network.bytes.now pair.second.network.bytes.now }
     ensures answer { let a = pair.entry.first.network in let b = pair.entry.second.network in
         outcome_of result ≡ record_answer a.form (length out.old) (join_said a.form a.bytes.now b.bytes.now) }
-    ensures buffer { let p = pair.entry in out.new ≡ laid_answer p.first.network.form (join_said p.first.network.form p.first.network.bytes.now p.second.network.bytes.now) out.old }
+    ensures buffer { let a = pair.entry.first.network in let b = pair.entry.second.network in
+        out.new ≡ laid_answer a.form (join_said a.form a.bytes.now b.bytes.now) out.old }
 {
     if let Some(place) = lowest_unmatched(pair) {
         return Err(Refusal {
@@ -98,7 +101,8 @@ fn join_apart(pair: TabledPair, out: &mut [u8]) -> Result<usize, Refusal>
 fn join_checked(pair: TabledPair, out: &mut [u8]) -> Result<usize, Refusal>
     ensures answer { let a = pair.entry.first.network in let b = pair.entry.second.network in
         outcome_of result ≡ record_answer a.form (length out.old) (join_said a.form a.bytes.now b.bytes.now) }
-    ensures buffer { let p = pair.entry in out.new ≡ laid_answer p.first.network.form (join_said p.first.network.form p.first.network.bytes.now p.second.network.bytes.now) out.old }
+    ensures buffer { let a = pair.entry.first.network in let b = pair.entry.second.network in
+        out.new ≡ laid_answer a.form (join_said a.form a.bytes.now b.bytes.now) out.old }
 {
     let first = pair.first.network;
     let n = first.node_count();

@@ -30,7 +30,8 @@ fn first_unlike(pair: Pair, n: usize) -> usize
 
 // Whether two networks have the same policies, in the same order.
 pub fn alike_policies(pair: Pair) -> bool
-    ensures { let p = pair.entry in result ≡ all_alike same_policy (read_network p.first.form p.first.bytes.now).policies (read_network p.first.form p.second.bytes.now).policies }
+    ensures { let a = pair.entry.first in let b = pair.entry.second in
+        result ≡ all_alike same_policy (read_network a.form a.bytes.now).policies (read_network a.form b.bytes.now).policies }
 {
     let n = pair.first.policy_count();
     if n != pair.second.policy_count() {

@@ -41,7 +41,7 @@ pub fn first_twice(network: &NetworkRecord, other: &TabledNetwork) -> usize
 // Whether the node in a row of a network matches an assumption: an own one promises just this route, an input is assumed to hold it.
 fn matches(network: &NetworkRecord, row: usize, assumed: Route) -> bool
     requires { row < node_count network.now.bytes.now }
-    ensures { result ≡ matched (house highest) assumed (some (box_at network.now.form.route network.now.bytes.now (node_offset network.now.form network.now.bytes.now row))) }
+    ensures { let n = network.now in result ≡ matched (house highest) assumed (some (box_at n.form.route n.bytes.now (node_offset n.form n.bytes.now row))) }
 {
     let width = network.form.route;
     let b = network.bytes;
