@@ -29,6 +29,3 @@ returns-in-Promised c = search (rules, owning)
 
 pub returns-in-Asked : goal.returns-in-Asked
 returns-in-Asked c = search (rules, owning)
-
-pub returns-in-Silent : goal.returns-in-Silent
-returns-in-Silent c = search (rules, owning)

@@ -3,9 +3,6 @@ use Rattle.counting.proofs.CountLaws.{promising_routes}
 use borrow.Author.Rules.{rules}
 use Rattle.counting.proofs.counts.promises_route.Goals as goal
 
-pub route_at-requires : goal.route_at-requires
-route_at-requires c = search (rules, promising_routes)
-
 pub returns-then-promising_at : goal.returns-then-promising_at
 returns-then-promising_at c = search (rules, promising_routes)
 

@@ -5,15 +5,6 @@ use Rattle.lines.proofs.Answers.{answering}
 use borrow.Author.Rules.{rules}
 use Rattle.counting.proofs.entry.census.Goals as goal
 
-pub prepare-requires : goal.prepare-requires
-prepare-requires c = search (rules, entering)
-
-pub verdict_line-requires : goal.verdict_line-requires
-verdict_line-requires c = search (rules, entering)
-
-pub place_line-requires : goal.place_line-requires
-place_line-requires c = search (rules, entering)
-
 pub new-requires : goal.new-requires
 new-requires c =
     search (

@@ -3,9 +3,6 @@ use Rattle.counting.proofs.LineLaws.{passing}
 use borrow.Author.Rules.{rules}
 use Rattle.counting.proofs.text.put_census.Goals as goal
 
-pub put_line-next-requires : goal.put_line-next-requires
-put_line-next-requires c = search (rules, passing)
-
 pub put_counts-next-requires : goal.put_counts-next-requires
 put_counts-next-requires c = search (rules, passing)
 

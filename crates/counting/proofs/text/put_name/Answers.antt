@@ -3,11 +3,5 @@ use Rattle.counting.proofs.LineLaws.{telling}
 use borrow.Author.Rules.{rules}
 use Rattle.counting.proofs.text.put_name.Goals as goal
 
-pub put_word-next-requires : goal.put_word-next-requires
-put_word-next-requires c = search (rules, telling)
-
-pub put_word-requires : goal.put_word-requires
-put_word-requires c = search (rules, telling)
-
 pub returns : goal.returns
 returns c = (search telling, search rules)

@@ -6,8 +6,5 @@ use Rattle.counting.proofs.text.put_silent.Goals as goal
 pub returns-then-not-is_counted : goal.returns-then-not-is_counted
 returns-then-not-is_counted c = search (rules, silencing)
 
-pub put_name-requires : goal.put_name-requires
-put_name-requires c = search (rules, silencing)
-
 pub returns : goal.returns
 returns c = search (rules, silencing)

@@ -5,14 +5,5 @@ use Rattle.counting.proofs.text.put_silents.Goals as goal
 pub loop-i-init : goal.loop-i-init
 loop-i-init c = search (rules, silences)
 
-pub put_silent-next-requires : goal.put_silent-next-requires
-put_silent-next-requires c = search (rules, silences)
-
-pub loop-i-smaller : goal.loop-i-smaller
-loop-i-smaller c = search (rules, silences)
-
 pub loop-i-preserved : goal.loop-i-preserved
 loop-i-preserved c = search (rules, silences)
-
-pub returns : goal.returns
-returns c = search silences

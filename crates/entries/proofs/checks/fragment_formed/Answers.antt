@@ -3,12 +3,6 @@ use Rattle.entries.proofs.EntryLaws.{fragments}
 use borrow.Author.Rules.{rules}
 use Rattle.entries.proofs.checks.fragment_formed.Goals as goal
 
-pub overflow_add-at : goal.overflow_add-at
-overflow_add-at c = search (rules, fragments)
-
-pub bounds-b-at : goal.bounds-b-at
-bounds-b-at c = search (rules, fragments)
-
 pub returns-in-0-to-63 : goal.returns-in-0-to-63
 returns-in-0-to-63 c = search fragments
 

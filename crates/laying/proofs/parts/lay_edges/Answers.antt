@@ -5,9 +5,6 @@ use mathlib.Core.Path.{◌≡◌}
 use borrow.Author.Rules.{rules}
 use Rattle.laying.proofs.parts.lay_edges.Goals as goal
 
-pub edge_offset-at-requires : goal.edge_offset-at-requires
-edge_offset-at-requires c = search (rules, laying, offsets)
-
 pub loop-j-init : goal.loop-j-init
 loop-j-init c = (search rules, search laying)
 
@@ -16,9 +13,6 @@ slice_bounds-lay_edge-count c = search (rules, laying, offsets)
 
 pub slice_bounds-lay_edge-start : goal.slice_bounds-lay_edge-start
 slice_bounds-lay_edge-start c = search (rules, laying, offsets)
-
-pub slice_bounds-lay_edge-end : goal.slice_bounds-lay_edge-end
-slice_bounds-lay_edge-end c = search (rules, laying, offsets)
 
 pub lay_edge-o-requires : goal.lay_edge-o-requires
 lay_edge-o-requires c = record { j_bound = (search rules, search rules); room = search (rules, edge_fits) }
@@ -33,9 +27,3 @@ pub loop-j-preserved : goal.loop-j-preserved
 loop-j-preserved c =
     let places : c.edge_count-n.result ≡ edge_count c.args.wires.table.network.bytes.now = search rules in
     (search offsets, search (laying, places))
-
-pub shape_of-out : goal.shape_of-out
-shape_of-out c = search (rules, laying, offsets)
-
-pub returns : goal.returns
-returns c = search (rules, laying, offsets)

@@ -14,9 +14,6 @@ slice_bounds-lay_node-count c = search (rules, laying)
 pub slice_bounds-lay_node-start : goal.slice_bounds-lay_node-start
 slice_bounds-lay_node-start c = search (rules, laying)
 
-pub slice_bounds-lay_node-end : goal.slice_bounds-lay_node-end
-slice_bounds-lay_node-end c = search (rules, laying)
-
 pub lay_node-o-requires : goal.lay_node-o-requires
 lay_node-o-requires c = record { notes = search rules; i_bound = search rules; room = search (rules, node_fits) }
 
@@ -27,9 +24,6 @@ pub loop-i-preserved : goal.loop-i-preserved
 loop-i-preserved c =
     let places : c.node_count-n.result ≡ node_count c.args.entered.network.bytes.now = search rules in
     search (laying, places)
-
-pub shape_of-out : goal.shape_of-out
-shape_of-out c = search (rules, laying)
 
 pub returns : goal.returns
 returns c = record { size = search (rules, laying); laid = search (rules, laying) }

@@ -5,14 +5,5 @@ use Rattle.lines.proofs.words.add_numbers.Goals as goal
 pub loop-n-init : goal.loop-n-init
 loop-n-init c = search (rules, adding)
 
-pub put_word-next-requires : goal.put_word-next-requires
-put_word-next-requires c = search (rules, adding)
-
-pub put_number-next-requires : goal.put_number-next-requires
-put_number-next-requires c = search (rules, adding)
-
 pub loop-n-preserved : goal.loop-n-preserved
 loop-n-preserved c = search (rules, adding)
-
-pub returns : goal.returns
-returns c = search (rules, adding)

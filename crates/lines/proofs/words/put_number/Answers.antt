@@ -3,8 +3,5 @@ use Rattle.lines.proofs.Laws.{numbering}
 use borrow.Author.Rules.{rules}
 use Rattle.lines.proofs.words.put_number.Goals as goal
 
-pub put_word-requires : goal.put_word-requires
-put_word-requires c = search (rules, numbering)
-
 pub returns : goal.returns
 returns c = (search numbering, search (rules, numbering))

@@ -2,9 +2,6 @@ use Rattle.lines.proofs.Laws.{putting}
 use borrow.Author.Rules.{rules}
 use Rattle.lines.proofs.words.put_word.Goals as goal
 
-pub loop-i-init : goal.loop-i-init
-loop-i-init c = search (rules, putting)
-
 pub loop-i-preserved : goal.loop-i-preserved
 loop-i-preserved c = search (rules, putting)
 

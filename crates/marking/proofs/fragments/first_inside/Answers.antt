@@ -5,9 +5,6 @@ use Rattle.marking.proofs.fragments.first_inside.Goals as goal
 pub loop-i-init : goal.loop-i-init
 loop-i-init c = search (rules, seeking)
 
-pub is_outside-requires : goal.is_outside-requires
-is_outside-requires c = search (rules, seeking)
-
 pub returns-then-not-is_outside : goal.returns-then-not-is_outside
 returns-then-not-is_outside c = search (rules, seeking)
 

@@ -12,8 +12,5 @@ returns-then-not-is_boxed c = search (rules, field_rooms, matching_row)
 pub route_at-assumed-requires : goal.route_at-assumed-requires
 route_at-assumed-requires c = search (rules, field_rooms, matching_row)
 
-pub row_in-requires : goal.row_in-requires
-row_in-requires c = search (rules, field_rooms, matching_row)
-
 pub returns : goal.returns
 returns c = search (rules, field_rooms, matching_row)

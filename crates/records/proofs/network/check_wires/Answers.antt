@@ -4,9 +4,6 @@ use Rattle.records.proofs.LeftLaws.{left_marked}
 use borrow.Author.Rules.{rules}
 use Rattle.records.proofs.network.check_wires.Goals as goal
 
-pub edge_offset-requires : goal.edge_offset-requires
-edge_offset-requires c = search (rules, wires)
-
 pub returns-then-bad-edge_count : goal.returns-then-bad-edge_count
 returns-then-bad-edge_count c = search (rules, wires)
 

@@ -5,9 +5,3 @@ use Rattle.routes.proofs.order.better.Goals as goal
 
 pub returns-in_default : goal.returns-in_default
 returns-in_default c = search (rules, choosing)
-
-pub returns-then-beats : goal.returns-then-beats
-returns-then-beats c = search (rules, choosing)
-
-pub returns-else-beats : goal.returns-else-beats
-returns-else-beats c = search (rules, choosing)

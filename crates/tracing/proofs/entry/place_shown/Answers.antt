@@ -5,34 +5,10 @@ use Rattle.lines.proofs.Answers.{answering}
 use borrow.Author.Rules.{rules}
 use Rattle.tracing.proofs.entry.place_shown.Goals as goal
 
-pub verdict_line-requires : goal.verdict_line-requires
-verdict_line-requires c = search (rules, showings, answering)
-
-pub place_line-requires : goal.place_line-requires
-place_line-requires c = search (rules, showings, answering)
-
-pub shape_of-out-then-not-is_owned : goal.shape_of-out-then-not-is_owned
-shape_of-out-then-not-is_owned c = search (rules, showings, answering)
-
 pub returns-then-not-is_owned : goal.returns-then-not-is_owned
 returns-then-not-is_owned c =
     let own = rw (c.table.ensures.form, c.table.ensures.network) at c.is_owned.ensures in
     record { count = search (answering, showings, own); short = search line_short; text = search (answering, showings, own) }
-
-pub search-verdict-requires : goal.search-verdict-requires
-search-verdict-requires c = search (rules, showings, answering)
-
-pub enum_told-1 : goal.enum_told-1
-enum_told-1 c = search (rules, showings, answering)
-
-pub verdict_line-requires-in_default : goal.verdict_line-requires-in_default
-verdict_line-requires-in_default c = search (rules, showings, answering)
-
-pub place_line-requires-in_default : goal.place_line-requires-in_default
-place_line-requires-in_default c = search (rules, showings, answering)
-
-pub shape_of-out-in_default : goal.shape_of-out-in_default
-shape_of-out-in_default c = search (rules, showings, answering)
 
 pub returns-in_default : goal.returns-in_default
 returns-in_default c =
@@ -44,9 +20,6 @@ pub place_trail-requires : goal.place_trail-requires
 place_trail-requires c =
     let own = rw (c.table.ensures.form, c.table.ensures.network) at c.is_owned.ensures in
     record { passing = search showings; id_value = search (showings, own) }
-
-pub shape_of-out : goal.shape_of-out
-shape_of-out c = search (rules, showings, answering)
 
 pub returns : goal.returns
 returns c =

@@ -4,20 +4,11 @@ use Rattle.lines.proofs.Writing.{placing}
 use borrow.Author.Rules.{rules}
 use Rattle.tracing.proofs.entry.place_trail.Goals as goal
 
-pub longest_trail-requires : goal.longest_trail-requires
-longest_trail-requires c = search (rules, trails, placing)
-
 pub put_trail-requires : goal.put_trail-requires
 put_trail-requires c = search (rules, trails, placing)
 
-pub shape_of-out-then-longest_trail-out : goal.shape_of-out-then-longest_trail-out
-shape_of-out-then-longest_trail-out c = search (rules, trails, placing)
-
 pub returns-then-longest_trail-out : goal.returns-then-longest_trail-out
 returns-then-longest_trail-out c = record { count = search trails; short = search trails; text = search trails }
-
-pub slice_bounds-put_trail-end : goal.slice_bounds-put_trail-end
-slice_bounds-put_trail-end c = search (rules, trails, placing)
 
 pub put_trail-length-requires : goal.put_trail-length-requires
 put_trail-length-requires c = search (rules, trails, placing)
@@ -27,9 +18,6 @@ returns-then-out-length c = record { count = search placing; short = search trai
 
 pub put_trail-requires-2 : goal.put_trail-requires-2
 put_trail-requires-2 c = search (rules, trails, placing)
-
-pub shape_of-out : goal.shape_of-out
-shape_of-out c = search (rules, trails, placing)
 
 pub returns : goal.returns
 returns c = record { count = search placing; short = search trails; text = search placing }

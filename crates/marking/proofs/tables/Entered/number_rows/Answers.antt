@@ -5,14 +5,5 @@ use Rattle.marking.proofs.tables.Entered.number_rows.Goals as goal
 pub loop-i-init : goal.loop-i-init
 loop-i-init c = search (rules, numbering)
 
-pub fragment_of-requires : goal.fragment_of-requires
-fragment_of-requires c = search (rules, numbering)
-
-pub bounds-fragments-i : goal.bounds-fragments-i
-bounds-fragments-i c = search (rules, numbering)
-
 pub loop-i-preserved : goal.loop-i-preserved
 loop-i-preserved c = search (rules, numbering)
-
-pub returns : goal.returns
-returns c = search (rules, numbering)

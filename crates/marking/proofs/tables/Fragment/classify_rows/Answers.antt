@@ -5,9 +5,6 @@ use Rattle.marking.proofs.tables.Fragment.classify_rows.Goals as goal
 pub loop-i-init : goal.loop-i-init
 loop-i-init c = search (rules, classifications)
 
-pub bounds-pieces-i : goal.bounds-pieces-i
-bounds-pieces-i c = search (rules, classifications)
-
 pub overflow_add-kept : goal.overflow_add-kept
 overflow_add-kept c = search (rules, classifications)
 

@@ -2,14 +2,8 @@ use Rattle.marking.proofs.MarkLaws.{markings}
 use borrow.Author.Rules.{rules}
 use Rattle.marking.proofs.tables.Wires.mark_wires.Goals as goal
 
-pub edge_offset-at-requires : goal.edge_offset-at-requires
-edge_offset-at-requires c = search (rules, markings)
-
 pub loop-j-init : goal.loop-j-init
 loop-j-init c = search (rules, markings)
-
-pub mark_wire-requires : goal.mark_wire-requires
-mark_wire-requires c = search (rules, markings)
 
 pub overflow_add-kept : goal.overflow_add-kept
 overflow_add-kept c = search (rules, markings)

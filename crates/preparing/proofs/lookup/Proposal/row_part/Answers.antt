@@ -3,15 +3,6 @@ use Rattle.preparing.proofs.LookupLaws.{row_parts}
 use borrow.Author.Rules.{rules}
 use Rattle.preparing.proofs.lookup.Proposal.row_part.Goals as goal
 
-pub offset_bounds-self-row : goal.offset_bounds-self-row
-offset_bounds-self-row c = search (rules, row_parts)
-
-pub bounds-self-row : goal.bounds-self-row
-bounds-self-row c = search (rules, row_parts)
-
-pub overflow_add-result : goal.overflow_add-result
-overflow_add-result c = search (rules, row_parts)
-
 pub slice_bounds-result-end : goal.slice_bounds-result-end
 slice_bounds-result-end c = search (rules, row_parts)
 

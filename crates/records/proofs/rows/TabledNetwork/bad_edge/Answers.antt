@@ -5,9 +5,6 @@ use Rattle.records.proofs.rows.TabledNetwork.bad_edge.Goals as goal
 pub loop-j-init : goal.loop-j-init
 loop-j-init c = search edging_start
 
-pub read_edge-requires : goal.read_edge-requires
-read_edge-requires c = search (rules, edging)
-
 pub returns-in_default : goal.returns-in_default
 returns-in_default c = record { bad = search (rules, edging); marks = search edging }
 

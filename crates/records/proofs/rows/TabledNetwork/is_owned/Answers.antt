@@ -3,12 +3,6 @@ use Rattle.records.proofs.EdgeLaws.{owned_ids}
 use borrow.Author.Rules.{rules}
 use Rattle.records.proofs.rows.TabledNetwork.is_owned.Goals as goal
 
-pub row_in-requires : goal.row_in-requires
-row_in-requires c = search (rules, owned_ids)
-
-pub is_own-requires : goal.is_own-requires
-is_own-requires c = search (rules, owned_ids)
-
 pub returns-then-is_boxed : goal.returns-then-is_boxed
 returns-then-is_boxed c = search (rules, owned_ids)
 

@@ -12,9 +12,6 @@ overflow_add-at c = search (rules, edge_read)
 pub u16_at-from-requires : goal.u16_at-from-requires
 u16_at-from-requires c = search (rules, edge_read)
 
-pub edge_key-key-requires : goal.edge_key-key-requires
-edge_key-key-requires c = search (rules, edge_read)
-
 pub returns-then-key-low : goal.returns-then-key-low
 returns-then-key-low c = search (rules, edge_read)
 
@@ -26,9 +23,6 @@ returns-then-not-edge_formed c = search (rules, edge_read)
 
 pub mark_left-requires : goal.mark_left-requires
 mark_left-requires c = search (rules, edge_read)
-
-pub overflow_add-result : goal.overflow_add-result
-overflow_add-result c = search (rules, edge_read)
 
 pub returns : goal.returns
 returns c = search (rules, edge_read)

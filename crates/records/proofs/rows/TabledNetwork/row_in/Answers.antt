@@ -3,15 +3,6 @@ use Rattle.records.proofs.RowLaws.{rows_read}
 use borrow.Author.Rules.{rules}
 use Rattle.records.proofs.rows.TabledNetwork.row_in.Goals as goal
 
-pub offset_bounds-self-from : goal.offset_bounds-self-from
-offset_bounds-self-from c = search (rules, rows_read)
-
-pub bounds-self-from : goal.bounds-self-from
-bounds-self-from c = search (rules, rows_read)
-
-pub from-requires : goal.from-requires
-from-requires c = search (rules, rows_read)
-
 pub overflow_sub-result : goal.overflow_sub-result
 overflow_sub-result c = search (rules, rows_read)
 
