@@ -87,6 +87,7 @@ impl<'a, 't> Lookup<'a, 't> {
     pub fn table(&self) -> TabledNetwork<'a, 't>
         ensures form { result.network.form ≡ self.now.proposal.network.form }
         ensures network { result.network.bytes.now ≡ self.now.proposal.network.bytes.now }
+        ensures rows { result.rows.now ≡ self.now.rows.now }
     {
         TabledNetwork {
             network: self.proposal.network,

@@ -1,6 +1,9 @@
 -- One result of each function that judging is made of: the routes that it looks up, the wires in their order and what they give, the fault of
 -- a box, the verdict and its line. Of a part and of a line the contract gives the bytes.
+use mathlib.Core.List.{List}
+use Prim.Native.Nat.{ℕ}
 use contract.Lifetimes.{Lfts}
+use Rattle.layout.specs.declared.Form.{Form}
 use Rattle.lines.specs.Line.{line_bytes}
 use Rattle.boxes.proofs.Faults.{one_fault}
 use Rattle.judging.proofs.Answers.{one_verdict}
@@ -17,10 +20,20 @@ use Rattle.boxes.proofs.offer.Reads as offer
 use Rattle.boxes.proofs.over_wire.Reads as over_wire
 use Rattle.judging.proofs.search.Reads as search
 use Rattle.judging.proofs.verdict_line.Reads as verdict_line
+use Rattle.preparing.proofs.lookup.Lookup.new.Reads as new_lookup
+use Rattle.preparing.proofs.lookup.Lookup.table.Reads as table_of
 use Rattle.promises.specs.Determined.{One}
 
 pub one_row_part : (κs : Lfts 3) → One (row_part.Post κs) (λ r e. r.now)
 one_row_part κs a r r' e e' p q = cc
+
+-- a struct of references is known by what stands behind them
+pub one_new : (κs : Lfts 2) → One {B = Form × List ℕ × List ℕ × List ℕ × List ℕ} (new_lookup.Post κs)
+    (λ r e. (r.proposal.network.form, r.proposal.network.bytes.now, r.proposal.list.now, r.rows.now, r.proposal.stands.now))
+one_new κs a r r' e e' p q = cc
+
+pub one_table : (κs : Lfts 3) → One {B = Form × List ℕ × List ℕ} (table_of.Post κs) (λ r e. (r.network.form, r.network.bytes.now, r.rows.now))
+one_table κs a r r' e e' p q = cc
 
 pub one_box_part : (κs : Lfts 3) → One (box_part.Post κs) (λ r e. r.now)
 one_box_part κs a r r' e e' p q = cc
