@@ -44,19 +44,16 @@ fn say_parts(rt: &HostRuntime, network: &[u8], sheet: &[u8]) {
     say(rt, "  edge from", usize::from(u16_at(&out, 79)));
 }
 
-// The first byte in which two records differ, or their length.
-fn first_other(one: &[u8; 124], other: &[u8; 124]) -> usize {
-    one.iter()
-        .zip(other.iter())
-        .position(|(a, b)| a != b)
-        .unwrap_or(124)
+// The first byte in which two records differ.
+fn first_other(one: &[u8; 124], other: &[u8; 124]) -> Option<usize> {
+    one.iter().zip(other.iter()).position(|(a, b)| a != b)
 }
 
 // The fragment of all boxes: its length, and how many of its bytes are the network's own.
 fn say_whole(rt: &HostRuntime, network: &[u8; 124], sheet: &[u8]) {
     let mut out = [0u8; 124];
     say_cut(rt, "all boxes in fragment 0:", network, sheet, 0, &mut out);
-    let own = first_other(network, &out);
+    let own = first_other(network, &out).unwrap_or(124);
     say(rt, "  bytes up to one that is not the network's", own);
 }
 

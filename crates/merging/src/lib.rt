@@ -1,6 +1,6 @@
 // Merging: the nodes and the edges of two networks, laid down as one by rising id and by rising key.
 //
-// It asks for two records of one form that a check has not refused. Which of two nodes with one id stays, `networks` says.
+// The writers ask for two records of one form that a check has not refused (`Pair`). Which of two nodes with one id stays, `networks` says.
 #![tactic(auto)]
 
 mod edge_merge;

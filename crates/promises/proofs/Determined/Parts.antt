@@ -34,6 +34,7 @@ use Rattle.nodes.proofs.record.NetworkRecord.node_offset.Reads as offset_of_node
 use Rattle.nodes.proofs.record.NetworkRecord.edge_offset.Reads as offset_of_edge
 use Rattle.entries.proofs.lookup.EntriesRecord.entry_count.Reads as entry_count
 use Rattle.records.proofs.rows.TabledNetwork.is_boxed.Reads as is_boxed
+use Rattle.records.proofs.rows.TabledNetwork.bad_edge.Reads as bad_edge
 use Rattle.promises.specs.Determined.{One}
 
 pub one_form_of : (κs : Lfts 1) → One (form_of.Post κs) (λ r e. r)
@@ -128,3 +129,6 @@ one_entry_count κs a r r' e e' p q = cc
 
 pub one_is_boxed : (κs : Lfts 3) → One (is_boxed.Post κs) (λ r e. r)
 one_is_boxed κs a r r' e e' p q = cc
+
+pub one_bad_edge : (κs : Lfts 4) → One {B = ℕ × List ℕ} (bad_edge.Post κs) (λ r e. (r, e.1.0.now))
+one_bad_edge κs a r r' e e' p q = cc

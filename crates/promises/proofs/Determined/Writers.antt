@@ -21,6 +21,7 @@ use Rattle.lines.proofs.add_route.Reads as add_route
 use Rattle.lines.proofs.put_line.Reads as put_line
 use Rattle.lines.proofs.put_box.Reads as put_box
 use Rattle.lines.proofs.place_line.Reads as place_line
+use Rattle.lines.proofs.LineFromRefusal.from.Reads as refusal_line
 use Rattle.outcomes.proofs.laid_in.Reads as Laid_in
 use Rattle.outcomes.proofs.place_outcome.Reads as place_outcome
 use Rattle.outcomes.proofs.Outcomes.{one_outcome}
@@ -89,3 +90,6 @@ one_laid_in κs a r r' e e' p q = one_outcome _ r r' p q
 
 pub one_place_outcome : (κs : Lfts 1) → One {B = ℕ × List ℕ} (place_outcome.Post κs) (λ r e. (r, e.1.0.now))
 one_place_outcome κs a r r' e e' p q = cc
+
+pub one_refusal_line : (κs : Lfts 0) → One (refusal_line.Post κs) (λ r e. r)
+one_refusal_line κs a r r' e e' p q = cc

@@ -1,4 +1,4 @@
--- One law for each way out: the tables give the tests that the code of the row is defined by.
+-- One law for each way out: the tables give the tests by which is defined what is kept of the row.
 use Rattle.marking.proofs.PieceLaws.{classifying}
 use borrow.Author.Rules.{rules}
 use Rattle.marking.proofs.tables.Fragment.piece_of.Goals as goal
