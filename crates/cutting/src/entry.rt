@@ -16,7 +16,7 @@ ghost use Rattle.layout.specs.Form.{sheet_lead};
 use entries::{EntriesRecord, check_sheet};
 use laying::lay;
 use layout::{Class, ROWS, Refusal, SHEET_LEAD};
-use marking::{Entered, Fragment, Kept, Wires, first_inside};
+use marking::{Entered, Fragment, Wires, first_inside};
 use nodes::NetworkRecord;
 use outcomes::laid_in;
 use records::{TabledNetwork, check_network_rows, place_entries};
@@ -36,7 +36,7 @@ fn cut_agreed(
     ensures answer { outcome_of result ≡ in_room (length out.old) (length (record_of fragment.entry)) }
     ensures buffer { out.new ≡ placed (record_of fragment.entry) out.old }
 {
-    let mut pieces = [Kept::Nothing; ROWS];
+    let mut pieces = [0; ROWS];
     let nodes = fragment.classify_rows(leaves, feeds, &mut pieces);
     let room = out.len();
     let size = lay(fragment, rows, &pieces, nodes, edges, out);

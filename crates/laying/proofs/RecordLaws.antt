@@ -27,7 +27,6 @@ use Rattle.reading.specs.Parts.{box_at, wire_at}
 use Rattle.reading.specs.Whole.{HouseNetwork, read_network, read_sheet, write_network}
 use Rattle.marking.specs.Marks.{reaches}
 use Rattle.marking.specs.Pieces.{piece_in, keeps, Pieces}
-use Rattle.marking.specs.declared.Kept.{Kept}
 use Rattle.writing.specs.Heads.{size_of}
 use Rattle.laying.specs.Pieces.{node_bytes, edge_bytes, fragment_in, NotesOfOwn, box_kept, wire_kept, FragmentParts}
 use Rattle.records.specs.Checked.{CheckedNetwork}
@@ -41,11 +40,11 @@ filter_kept : {A : Type 0} (p : A → Bool) (xs : List A) → filter p xs ≡ fi
 filter_kept {A} p xs = sym (map-id (filter p xs)) ∙ map_filter (λ (x : A). x) p xs
 
 -- what is kept with a note is an own node
-pub notes_of_own : (f : Form) (network sheet entries : List ℕ) (k : ℕ) (pieces : List Kept) → Pieces f network sheet entries k pieces → NotesOfOwn f network pieces
+pub notes_of_own : (f : Form) (network sheet entries : List ℕ) (k : ℕ) (pieces : List ℕ) → Pieces f network sheet entries k pieces → NotesOfOwn f network pieces
 unfolding NotesOfOwn
 notes_of_own f network sheet entries k pieces p i l = (p.row i l).ours
 
-module _ (f : Form) (network sheet entries fragments : List ℕ) (k : ℕ) (pieces : List Kept) (c : CheckedNetwork f network) (m : Numbered f network sheet fragments)
+module _ (f : Form) (network sheet entries fragments : List ℕ) (k : ℕ) (pieces : List ℕ) (c : CheckedNetwork f network) (m : Numbered f network sheet fragments)
     (parted : Pieces f network sheet entries k pieces) where
   abbrev F : HouseNetwork
   F = fragment_in f network sheet k

@@ -28,7 +28,7 @@ use Rattle.layout.specs.declared.Form.{Form}
 use Rattle.reading.specs.Parts.{box_at, box_bytes, wire_at, wire_bytes}
 use Rattle.reading.proofs.Said.{box_id_at}
 use Rattle.marking.specs.Marks.{reaches}
-use Rattle.marking.specs.Pieces.{note_offset, note_in, with_promise, piece_of}
+use Rattle.marking.specs.Pieces.{note_offset, note_in, with_promise, piece_of, kept_by}
 use Rattle.records.specs.Checked.{CheckedNetwork, CheckedEntries}
 use Rattle.records.specs.Entered.{EntryRows}
 use Rattle.marking.specs.declared.Kept.{Kept}
@@ -40,24 +40,22 @@ use Rattle.writing.specs.Rows.{promised_at, NodeAt, OwnAt, RouteAt, EdgeAt}
 use Rattle.writing.proofs.RunLaws.{Laying, box_room, wire_room, lay_fits}
 use Rattle.laying.specs.Pieces.{node_bytes, edge_bytes, NotesOfOwn}
 
-module _ (f : Form) (network sheet entries : List ℕ) (pieces : List Kept) (c : CheckedNetwork f network) (s : CheckedEntries f sheet_lead sheet)
-    (n : EntryRows f sheet_lead network sheet entries) (own : NotesOfOwn f network pieces) (i : ℕ) (l : i < node_count network) where
+module _ (f : Form) (network sheet entries : List ℕ) (pieces : List ℕ) (c : CheckedNetwork f network) (s : CheckedEntries f sheet_lead sheet)
+    (n : EntryRows f sheet_lead network sheet entries) (own : NotesOfOwn f network pieces) (i : ℕ) (l : i < node_count network)
+    (kept : Kept) (k : kept ≡ kept_by (get_or pieces i 0)) where
   abbrev w : ℕ
   w = f.route
-
-  abbrev part : Kept
-  part = get_or pieces i Nothing
 
   abbrev run : List ℕ
   run = node_bytes f network sheet entries pieces i
 
-  pub as_none : part ≡ Nothing → run ≡ []
+  pub as_none : kept ≡ Nothing → run ≡ []
   unfolding node_bytes piece_of
-  as_none z = rw z
+  as_none z = rw (← k, z)
 
-  pub promised_ours : part ≡ Promised → is_own f network i ≡ true
+  pub promised_ours : kept ≡ Promised → is_own f network i ≡ true
   unfolding NotesOfOwn
-  promised_ours z = own i l (rw z)
+  promised_ours z = own i l (rw (← k, z))
 
   -- the note of an own box is a route of the sheet
   module _ (note : ℕ) (q : note ≡ note_offset f entries i) where
@@ -79,28 +77,28 @@ module _ (f : Form) (network sheet entries : List ℕ) (pieces : List Kept) (c :
         let sound = and_r (leb (least (node_id f network) i) (node_id f network i)) (node_formed w network (node_offset f network i)) (c.sound.nodes i l) in
         record { usable = c.room.usable; bytes = c.bytes; there = rw e (node_room f network c.room i l); formed = rw e sound }
 
-    pub as_whole : part ≡ Stays → run ≡ box_bytes w (box_at w network at)
+    pub as_whole : kept ≡ Stays → run ≡ box_bytes w (box_at w network at)
     unfolding node_bytes piece_of box_in
-    as_whole z = rw (z, e)
+    as_whole z = rw (← k, z, e)
 
-    module _ (z : part ≡ Promised) where
+    module _ (z : kept ≡ Promised) where
       pub own_at : OwnAt f network at
       unfolding is_own
       own_at = record { node = node_at; ours = rw e (eqb-true _ _ (promised_ours z)) }
 
       pub as_promised : (note : ℕ) → note ≡ note_offset f entries i → run ≡ box_bytes w (promised_at w network at (route_at w sheet note))
       unfolding node_bytes piece_of promised_at node_id note_in
-      as_promised note q = rw (z, q, e) (ap (λ (v : Box Route Demand). box_bytes w (with_promise v (note_in f sheet entries i))) (own_box f network i (promised_ours z)))
+      as_promised note q = rw (← k, z, q, e) (ap (λ (v : Box Route Demand). box_bytes w (with_promise v (note_in f sheet entries i))) (own_box f network i (promised_ours z)))
 
-  module _ (z : part ≡ Assumed) where
+  module _ (z : kept ≡ Assumed) where
     pub assumed_ours : is_own f network i ≡ true
     unfolding NotesOfOwn
-    assumed_ours = own i l (rw z)
+    assumed_ours = own i l (rw (← k, z))
 
     pub as_assumed : (id note : ℕ) → id ≡ node_id f network i → note ≡ note_offset f entries i → run ≡ box_bytes w (input (record { id = id; assumed = route_at w sheet note }))
     unfolding node_bytes piece_of box_in node_id note_in
     as_assumed id note e q =
-        rw (z, e, q)
+        rw (← k, z, e, q)
         (ap (λ (n : ℕ). box_bytes w (input (record { id = n; assumed = note_in f sheet entries i }))) (box_id_at w network (node_offset f network i)))
 
   -- a node is as wide, whatever is kept of it
@@ -108,13 +106,13 @@ module _ (f : Form) (network sheet entries : List ℕ) (pieces : List Kept) (c :
     fits : (v : Box Route Demand) → run ≡ box_bytes w v → node_width f ≤ length out
     fits v e = box_room run out h f v e c.room.usable
 
-    pub whole_room : part ≡ Stays → node_width f ≤ length out
+    pub whole_room : kept ≡ Stays → node_width f ≤ length out
     whole_room z = fits _ (as_whole _ refl z)
 
-    pub promised_room : part ≡ Promised → node_width f ≤ length out
+    pub promised_room : kept ≡ Promised → node_width f ≤ length out
     promised_room z = fits _ (as_promised _ refl z _ refl)
 
-    pub assumed_room : part ≡ Assumed → node_width f ≤ length out
+    pub assumed_room : kept ≡ Assumed → node_width f ≤ length out
     assumed_room z = fits _ (as_assumed z _ _ refl refl)
 
 pub ruleset keeping = (as_none, promised_ours, note_at, node_at, as_whole, whole_room, own_at, as_promised, promised_room, assumed_ours, as_assumed, assumed_room)
@@ -152,7 +150,7 @@ pub ruleset offsets = (edge_on, edge_sum)
 
 -- the next row fits in what remains
 module _ (f : Form) (network : List ℕ) (n : ℕ) (out₀ out : List ℕ) (i o : ℕ) where
-  pub node_fits : (sheet entries : List ℕ) (pieces : List Kept) → Laying (node_bytes f network sheet entries pieces) (node_count network) out₀ out i o
+  pub node_fits : (sheet entries : List ℕ) (pieces : List ℕ) → Laying (node_bytes f network sheet entries pieces) (node_count network) out₀ out i o
       → length (joined (node_bytes f network sheet entries pieces) (node_count network)) ≤ length out₀ → n ≡ node_count network → i < n
       → length (node_bytes f network sheet entries pieces i) ≤ length (take (length out - o) (drop o out))
   node_fits sheet entries pieces = lay_fits (node_bytes f network sheet entries pieces) (node_count network) n out₀ out i o

@@ -16,17 +16,15 @@ use Rattle.layout.specs.declared.Form.{Form}
 use Rattle.reading.specs.Parts.{box_bytes, wire_at, wire_bytes}
 use Rattle.reading.specs.Whole.{HouseNetwork, read_network, read_sheet, write_network}
 use Rattle.marking.specs.Marks.{reaches}
-use Rattle.marking.specs.Pieces.{piece_of, with_note}
-use Rattle.marking.specs.declared.Kept.{Kept}
-use Rattle.marking.specs.declared.Kept.TheVariants.{Nothing}
+use Rattle.marking.specs.Pieces.{piece_of, with_note, kept_by}
 use Rattle.writing.specs.Heads.{head_bytes, policies_in}
 use Rattle.writing.specs.Parts.{Parts}
 
 -- what is kept of the node in row i, by the table
-abbrev pub box_kept : Form → List ℕ → List ℕ → List ℕ → List Kept → ℕ → Option (Box Route Demand)
-box_kept f network sheet entries pieces i = piece_of f network sheet entries i (get_or pieces i Nothing)
+abbrev pub box_kept : Form → List ℕ → List ℕ → List ℕ → List ℕ → ℕ → Option (Box Route Demand)
+box_kept f network sheet entries pieces i = piece_of f network sheet entries i (kept_by (get_or pieces i 0))
 
-unfoldable pub node_bytes : Form → List ℕ → List ℕ → List ℕ → List Kept → ℕ → List ℕ
+unfoldable pub node_bytes : Form → List ℕ → List ℕ → List ℕ → List ℕ → ℕ → List ℕ
 node_bytes f network sheet entries pieces i = laid_option (box_bytes f.route) (box_kept f network sheet entries pieces i)
 
 -- the j-th edge, where its to end has number k
@@ -37,7 +35,7 @@ unfoldable pub edge_bytes : Form → List ℕ → List ℕ → ℕ → ℕ → L
 edge_bytes f network fragments k j = laid_option wire_bytes (wire_kept f network fragments k j)
 
 -- the nodes and the edges, one behind another
-abbrev pub nodes_in : Form → List ℕ → List ℕ → List ℕ → List Kept → List ℕ
+abbrev pub nodes_in : Form → List ℕ → List ℕ → List ℕ → List ℕ → List ℕ
 nodes_in f network sheet entries pieces = joined (node_bytes f network sheet entries pieces) (node_count network)
 
 abbrev pub edges_in : Form → List ℕ → List ℕ → ℕ → List ℕ
@@ -48,10 +46,10 @@ unfoldable pub fragment_in : Form → List ℕ → List ℕ → ℕ → HouseNet
 fragment_in f network sheet k = fragment (read_network f network) (read_sheet f sheet) k
 
 -- its record is what is laid down, with these counts of nodes and edges
-abbrev pub FragmentParts : Form → List ℕ → List ℕ → List ℕ → List ℕ → List Kept → ℕ → ℕ → ℕ → ℕ → Type 0
+abbrev pub FragmentParts : Form → List ℕ → List ℕ → List ℕ → List ℕ → List ℕ → ℕ → ℕ → ℕ → ℕ → Type 0
 FragmentParts f network sheet entries fragments pieces k size nodes edges = Parts (write_network f (fragment_in f network sheet k)) size
     (head_bytes f.version size nodes edges (policy_count network)) (policies_in network) (nodes_in f network sheet entries pieces) (edges_in f network fragments k)
 
 -- a note is kept of own boxes only
-unfoldable pub NotesOfOwn : Form → List ℕ → List Kept → Type 0
-NotesOfOwn f network pieces = (i : ℕ) → i < node_count network → with_note (get_or pieces i Nothing) ≡ true → is_own f network i ≡ true
+unfoldable pub NotesOfOwn : Form → List ℕ → List ℕ → Type 0
+NotesOfOwn f network pieces = (i : ℕ) → i < node_count network → with_note (kept_by (get_or pieces i 0)) ≡ true → is_own f network i ≡ true

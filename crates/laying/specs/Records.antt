@@ -4,12 +4,11 @@
 use Rattle.std.specs.Prelude.{ℕ, List}
 use Rattle.marking.specs.declared.Entered.{Entered}
 use Rattle.marking.specs.declared.Fragment.{Fragment}
-use Rattle.marking.specs.declared.Kept.{Kept}
 use Rattle.marking.specs.declared.Wires.{Wires}
 use Rattle.reading.specs.Whole.{write_network}
 use Rattle.laying.specs.Pieces.{node_bytes, nodes_in, edge_bytes, edges_in, fragment_in, FragmentParts}
 
-module _ (e : Entered) (pieces : List Kept) where
+module _ (e : Entered) (pieces : List ℕ) where
   abbrev pub node_of : ℕ → List ℕ
   node_of = node_bytes e.network.form e.network.bytes.now e.sheet.now e.entries.now pieces
 
@@ -28,6 +27,6 @@ module _ (c : Fragment) where
   record_of = write_network c.entered.network.form (fragment_in c.entered.network.form c.entered.network.bytes.now c.entered.sheet.now c.k)
 
   -- with these counts of nodes and edges
-  abbrev pub PartsOf : List Kept → ℕ → ℕ → ℕ → Type 0
+  abbrev pub PartsOf : List ℕ → ℕ → ℕ → ℕ → Type 0
   PartsOf pieces size nodes edges =
       FragmentParts c.entered.network.form c.entered.network.bytes.now c.entered.sheet.now c.entered.entries.now c.fragments.now pieces c.k size nodes edges

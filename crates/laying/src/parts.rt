@@ -6,10 +6,10 @@ ghost use Rattle.laying.specs.Records.{nodes_of, edges_of};
 
 use crate::rows::{lay_edge, lay_node};
 use layout::{EDGE_WIDTH, ROWS};
-use marking::{Entered, Kept, Wires};
+use marking::{Entered, Wires};
 
 // The nodes. Answers how many bytes they are.
-pub fn lay_nodes(entered: Entered, pieces: &[Kept; ROWS], out: &mut [u8]) -> usize
+pub fn lay_nodes(entered: Entered, pieces: &[u8; ROWS], out: &mut [u8]) -> usize
     requires notes { NotesOfOwn entered.network.form entered.network.bytes.now pieces.now }
     requires room { length (nodes_of entered pieces.now) ≤ length out.old }
     ensures size { result ≡ length (nodes_of entered.entry pieces.now) }

@@ -12,7 +12,7 @@ use numbers::u16_at;
 use writing::{put_edge, put_input, put_node, put_promised};
 
 // The node in row i, by what is kept of it.
-pub fn lay_node(entered: Entered, pieces: &[Kept; ROWS], i: usize, out: &mut [u8]) -> usize
+pub fn lay_node(entered: Entered, pieces: &[u8; ROWS], i: usize, out: &mut [u8]) -> usize
     requires notes { NotesOfOwn entered.network.form entered.network.bytes.now pieces.now }
     requires i_bound { i < node_count entered.network.bytes.now }
     requires room { length (node_of entered pieces.now i) ≤ length out.old }
@@ -22,7 +22,7 @@ pub fn lay_node(entered: Entered, pieces: &[Kept; ROWS], i: usize, out: &mut [u8
     let network = entered.network;
     let form = network.form;
     let at = network.node_offset(i);
-    match pieces[i] {
+    match Kept::from(pieces[i]) {
         Kept::Nothing => 0,
         Kept::Stays => put_node(form, network.bytes, at, out),
         Kept::Promised => put_promised(

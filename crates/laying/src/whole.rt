@@ -10,7 +10,7 @@ ghost use Rattle.laying.specs.Records.{record_of, PartsOf};
 
 use crate::parts::{lay_edges, lay_nodes};
 use layout::{HEAD_WIDTH, POLICIES_FIELD, ROWS};
-use marking::{Fragment, Kept, Wires};
+use marking::{Fragment, Wires};
 use records::TabledNetwork;
 use writing::{put_head, put_policies, size_of};
 
@@ -18,7 +18,7 @@ use writing::{put_head, put_policies, size_of};
 fn lay_parts(
     fragment: Fragment,
     rows: &[u16; 65536],
-    pieces: &[Kept; ROWS],
+    pieces: &[u8; ROWS],
     size: u32,
     nodes: u16,
     edges: u16,
@@ -54,7 +54,7 @@ fn lay_parts(
 pub fn lay(
     fragment: Fragment,
     rows: &[u16; 65536],
-    pieces: &[Kept; ROWS],
+    pieces: &[u8; ROWS],
     nodes: usize,
     edges: usize,
     out: &mut [u8],

@@ -29,7 +29,7 @@ use Rattle.reading.specs.Whole.{HouseNetwork, HouseSheet, read_network, read_she
 use Rattle.marking.specs.Marks.{Leaving, Feeding}
 use Rattle.marking.specs.declared.pieces.Kept.{Kept}
 use Rattle.marking.specs.declared.pieces.Kept.TheVariants.{Nothing, Stays, Promised, Assumed}
-use Rattle.marking.specs.Pieces.{note_in, piece_in, keeps, kept_in, with_piece, piece_of, Piece, Pieces, some_kept}
+use Rattle.marking.specs.Pieces.{note_in, piece_in, keeps, kept_in, with_piece, piece_of, Piece, Pieces, some_kept, code_of, kept_by}
 use Rattle.records.specs.Entered.{EntryRows}
 use Rattle.marking.specs.Tables.{row_fragment, Numbered}
 use Rattle.reading.specs.Rows.{own_in}
@@ -154,16 +154,16 @@ module _ (f : Form) (network sheet : List ℕ) (i : ℕ) (l : i < node_count net
 pub ruleset classifying = (row_small, node_there, kept_input, kept_other, kept_stays, kept_promised, kept_noted)
 
 -- what the loop over the rows knows
-pub record Classifying (f : Form) (network sheet : List ℕ) (k n i kept : ℕ) (pieces₀ pieces : List Kept) : Type 0 where
+pub record Classifying (f : Form) (network sheet : List ℕ) (k n i kept : ℕ) (pieces₀ pieces : List ℕ) : Type 0 where
   pub within : i ≤ n
   pub counted : kept ≡ count (keeps f network sheet k) i
   pub filled : pieces ≡ table_after (with_piece f network sheet k) i pieces₀
 
-module _ (f : Form) (network sheet : List ℕ) (k n : ℕ) (pieces₀ : List Kept) where
+module _ (f : Form) (network sheet : List ℕ) (k n : ℕ) (pieces₀ : List ℕ) where
   pub classifying_start : Classifying f network sheet k n 0 0 pieces₀ pieces₀
   classifying_start = record { within = omega arith; counted = count_none _; filled = after_none (with_piece f network sheet k) pieces₀ }
 
-  module _ (i kept : ℕ) (pieces : List Kept) (s : Classifying f network sheet k n i kept pieces₀ pieces) where
+  module _ (i kept : ℕ) (pieces : List ℕ) (s : Classifying f network sheet k n i kept pieces₀ pieces) where
     module _ (l : n ≤ i) (e : n ≡ node_count network) where
       done : i ≡ node_count network
       done = let w = s.within in omega arith
@@ -194,24 +194,35 @@ module _ (f : Form) (network sheet : List ℕ) (k n : ℕ) (pieces₀ : List Kep
       pub classifying_kept : n ≤ 65535 → Fits w64 (kept + one)
       classifying_kept g = let h = count_most t in let q = s.counted in omega (arith, count_le (keeps f network sheet k) i)
 
-      pub classifying_next : Classifying f network sheet k n (i + 1) (kept + one) pieces₀ (set pieces i piece)
+      pub classifying_next : (code : ℕ) → code ≡ code_of piece → Classifying f network sheet k n (i + 1) (kept + one) pieces₀ (set pieces i code)
       unfolding with_piece
-      classifying_next = record {
+      classifying_next code c = record {
         within = omega arith;
         counted = rw (s.counted, o, count_one t, ← keeps_some) (sym (count_next (keeps f network sheet k) i));
-        filled = after_next (with_piece f network sheet k) pieces₀ i pieces (set pieces i piece) s.filled (ap (set pieces i) p);
+        filled = after_next (with_piece f network sheet k) pieces₀ i pieces (set pieces i code) s.filled (ap (set pieces i) (c ∙ ap code_of p));
       }
 
 pub ruleset classifications = (classifying_start, classifying_count, classifying_table, classifying_index, classifying_kept, classifying_next)
 
+-- a code says the way that it is of
+by_code : (kept : Kept) → kept_by (code_of kept) ≡ kept
+by_code Nothing = refl
+by_code Stays = refl
+by_code Promised = refl
+by_code Assumed = refl
+
 -- what the table of all rows holds
-pub pieces_made : (f : Form) (network sheet found : List ℕ) (k : ℕ) (pieces : List Kept) → Room f network → EntryRows f sheet_lead network sheet found
-    → pieces ≡ table_after (with_piece f network sheet k) (node_count network) (replicate 1024 Nothing) → Pieces f network sheet found k pieces
+pub pieces_made : (f : Form) (network sheet found : List ℕ) (k : ℕ) (pieces : List ℕ) → Room f network → EntryRows f sheet_lead network sheet found
+    → pieces ≡ table_after (with_piece f network sheet k) (node_count network) (replicate 1024 0) → Pieces f network sheet found k pieces
 unfolding with_piece
 pieces_made f network sheet found k pieces r h d =
     let few = r.few in
     let most = r.usable.few in
     record {
-      row = λ i l. rw (d, after_stored (kept_in f network sheet k) Nothing (replicate 1024 Nothing) (node_count network) (omega (arith, length-replicate {A = Kept} 1024 Nothing)) i l)
+      row = λ i l. rw (
+        d,
+        after_stored (λ (i : ℕ). code_of (kept_in f network sheet k i)) 0 (replicate 1024 0) (node_count network) (omega (arith, length-replicate {A = ℕ} 1024 0)) i l,
+        by_code (kept_in f network sheet k i),
+      )
           (piece_is f network sheet i l k found h);
     }

@@ -7,7 +7,6 @@ use Rattle.std.specs.Prelude.{ℕ, Bool, List}
 use Rattle.marking.specs.declared.tables.Entered.{Entered}
 use Rattle.marking.specs.declared.tables.Fragment.{Fragment}
 use Rattle.marking.specs.declared.tables.Wires.{Wires}
-use Rattle.marking.specs.declared.pieces.Kept.{Kept}
 use Rattle.marking.specs.Marks.{crosses, reaches, Leaving, Feeding}
 use Rattle.marking.specs.Pieces.{keeps, with_piece, Pieces}
 
@@ -28,11 +27,11 @@ module _ (c : Fragment) where
   abbrev pub kept_of : ℕ → Bool
   kept_of = keeps c.entered.network.form c.entered.network.bytes.now c.entered.sheet.now c.k
 
-  abbrev pub keeping : ℕ → List Kept → List Kept
+  abbrev pub keeping : ℕ → List ℕ → List ℕ
   keeping = with_piece c.entered.network.form c.entered.network.bytes.now c.entered.sheet.now c.k
 
   abbrev pub reaching : ℕ → Bool
   reaching = reaches c.entered.network.form c.entered.network.bytes.now c.fragments.now c.k
 
-  abbrev pub PiecesOf : List Kept → Type 0
+  abbrev pub PiecesOf : List ℕ → Type 0
   PiecesOf = Pieces c.entered.network.form c.entered.network.bytes.now c.entered.sheet.now c.entered.entries.now c.k

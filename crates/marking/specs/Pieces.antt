@@ -1,7 +1,9 @@
 -- What the fragment keeps of each row of the network's nodes.
 --     note_offset, note_in        the note of a row
 --     piece_in, keeps            what is kept of the box in a row, and whether anything is
---     kept_in, with_piece         which of the four ways it is kept, and the table of them
+--     kept_in                    which of the four ways it is kept
+--     code_of, kept_by           its code, and the way that a code says
+--     with_piece                 the table of the codes
 --     piece_of, Piece, Pieces    what each way says
 use Rattle.std.specs.Prelude.{ℕ, ◌+◌, ◌<◌, Bool, true, false, cond, not, ◌&&◌, List, ◌≡◌, eqb, get_or, set}
 use Rattle.std.proofs.Math.Option.{Option, none, some}
@@ -44,6 +46,17 @@ some_kept Stays = true
 some_kept Promised = true
 some_kept Assumed = true
 
+-- the code of a way
+abbrev pub code_of : Kept → ℕ
+code_of Nothing = 0
+code_of Stays = 1
+code_of Promised = 2
+code_of Assumed = 3
+
+-- the way that a code says
+abbrev pub kept_by : ℕ → Kept
+kept_by code = cond (eqb code 0) Nothing (cond (eqb code 1) Stays (cond (eqb code 2) Promised Assumed))
+
 -- its note is kept
 abbrev pub with_note : Kept → Bool
 with_note Nothing = false
@@ -75,9 +88,9 @@ module _ (f : Form) (network sheet : List ℕ) where
       (cond (feeds N S (only k) (node_id f network i)) Assumed Nothing))
       (cond (feeds N S (only k) (node_id f network i)) Stays Nothing)
 
-  -- the table with what is kept of row i
-  unfoldable pub with_piece : ℕ → ℕ → List Kept → List Kept
-  with_piece k i table = set table i (kept_in k i)
+  -- the table with the code of row i
+  unfoldable pub with_piece : ℕ → ℕ → List ℕ → List ℕ
+  with_piece k i table = set table i (code_of (kept_in k i))
 
   -- what is kept of row i, as a box
   unfoldable pub piece_of : List ℕ → ℕ → Kept → Option (Box Route Demand)
@@ -91,6 +104,6 @@ module _ (f : Form) (network sheet : List ℕ) where
     pub is : piece_of found i kept ≡ piece_in k i
     pub ours : with_note kept ≡ true → is_own f network i ≡ true
 
-  -- the table holds what is kept of all rows
-  pub record Pieces (found : List ℕ) (k : ℕ) (pieces : List Kept) : Type 0 where
-    pub row : (i : ℕ) → i < node_count network → Piece found k i (get_or pieces i Nothing)
+  -- the table holds the codes of all rows
+  pub record Pieces (found : List ℕ) (k : ℕ) (pieces : List ℕ) : Type 0 where
+    pub row : (i : ℕ) → i < node_count network → Piece found k i (kept_by (get_or pieces i 0))

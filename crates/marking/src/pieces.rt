@@ -2,14 +2,15 @@
 ghost use Rattle.std.specs.Prelude.{◌≡◌, ◌<◌, cond, eqb};
 ghost use Rattle.lists.specs.Gather.{count, table_after};
 ghost use Rattle.layout.specs.Layout.{node_count};
-ghost use Rattle.marking.specs.Pieces.{kept_in, some_kept};
+ghost use Rattle.marking.specs.Pieces.{kept_in, some_kept, code_of, kept_by};
 ghost use Rattle.marking.specs.declared.pieces.Kept.TheVariants.{Nothing};
 
 use crate::tables::Fragment;
 use layout::ROWS;
 use nodes::promising_at;
 
-// What the fragment keeps of a node: nothing, the node as it stands, the node with its note promised, or its note assumed.
+// What the fragment keeps of a node: nothing, the node as it stands, the node with its note promised, or its note assumed. A table by rows has
+// it as a code.
 #[derive(Clone, Copy)]
 pub enum Kept {
     Nothing,
@@ -26,6 +27,32 @@ impl Kept {
         match self {
             Kept::Nothing => false,
             _ => true,
+        }
+    }
+}
+
+impl From<Kept> for u8 {
+    ghost from_gives = { λ kept code. code ≡ code_of kept };
+
+    fn from(kept: Kept) -> u8 {
+        match kept {
+            Kept::Nothing => 0,
+            Kept::Stays => 1,
+            Kept::Promised => 2,
+            Kept::Assumed => 3,
+        }
+    }
+}
+
+impl From<u8> for Kept {
+    ghost from_gives = { λ code kept. kept ≡ kept_by code };
+
+    fn from(code: u8) -> Kept {
+        match code {
+            0 => Kept::Nothing,
+            1 => Kept::Stays,
+            2 => Kept::Promised,
+            _ => Kept::Assumed,
         }
     }
 }
@@ -65,12 +92,12 @@ impl Fragment<'_> {
         Kept::Promised
     }
 
-    // Stores what the fragment keeps of each row. Answers how many are kept.
+    // Stores the code of what the fragment keeps of each row. Answers how many are kept.
     pub fn classify_rows(
         self,
         leaves: &[u8; ROWS],
         feeds: &[u8; ROWS],
-        pieces: &mut [Kept; ROWS],
+        pieces: &mut [u8; ROWS],
     ) -> usize
         requires { LeavesOf self.entered leaves.now × FeedsOf self feeds.now }
         ensures kept { result ≡ count (kept_of self.entry) (node_count self.entry.entered.network.bytes.now) }
@@ -80,7 +107,7 @@ impl Fragment<'_> {
         let mut kept = 0;
         for i in 0..n {
             let piece = self.piece_of(leaves, feeds, i);
-            pieces[i] = piece;
+            pieces[i] = u8::from(piece);
             kept += usize::from(piece.is_some());
         }
         kept

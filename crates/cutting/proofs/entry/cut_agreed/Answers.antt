@@ -1,4 +1,4 @@
--- What is kept is told in a table of nothings. The record's length decides between 20 and what was laid (record_roomed).
+-- What is kept is told in a table of zeros. The record's length decides between 20 and what was laid (record_roomed).
 use Rattle.cutting.proofs.AnswerLaws.{record_roomed}
 use Rattle.cutting.proofs.CheckLaws.{tables_whole}
 use borrow.Author.Rules.{rules}
