@@ -35,12 +35,12 @@ pub fn first_wire(network: &NetworkRecord) -> NextWire
     wire_from(network, network.edge_offset(0))
 }
 
-// The wire behind another.
-pub fn wire_behind(network: &NetworkRecord, wire: NextWire) -> NextWire
-    requires { CheckedNetwork network.now.form network.now.bytes.now × WireAt network.now.form network.now.bytes.now wire.at }
-    ensures { result ≡ next_from network.now.bytes.now (wire.at + 5) }
+// The wire behind the one at an offset.
+pub fn wire_behind(network: &NetworkRecord, at: usize) -> NextWire
+    requires { CheckedNetwork network.now.form network.now.bytes.now × WireAt network.now.form network.now.bytes.now at }
+    ensures { result ≡ next_from network.now.bytes.now (at + 5) }
 {
-    wire_from(network, wire.at + 5)
+    wire_from(network, at + 5)
 }
 
 // The row of the first wire to a box with this id or a higher one, found by halving.
@@ -80,10 +80,10 @@ pub fn offer(lookup: &Lookup<'_, '_>, at: usize) -> Route
     carry(HIGHEST, policy, lookup.box_route(u16_at(network, at + 2)))
 }
 
-// The better of a route and what a wire gives.
-pub fn over_wire(lookup: &Lookup<'_, '_>, wire: NextWire, due: Route) -> Route
-    requires { WireAt lookup.now.proposal.network.form lookup.now.proposal.network.bytes.now wire.at }
-    ensures { result ≡ best beats due (offer_at lookup.now.proposal.network.form lookup.now.proposal.network.bytes.now lookup.now.proposal.list.now wire.at) }
+// The better of a route and what the wire at an offset gives.
+pub fn over_wire(lookup: &Lookup<'_, '_>, at: usize, due: Route) -> Route
+    requires { WireAt lookup.now.proposal.network.form lookup.now.proposal.network.bytes.now at }
+    ensures { result ≡ best beats due (offer_at lookup.now.proposal.network.form lookup.now.proposal.network.bytes.now lookup.now.proposal.list.now at) }
 {
-    better(due, offer(lookup, wire.at))
+    better(due, offer(lookup, at))
 }

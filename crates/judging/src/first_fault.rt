@@ -41,8 +41,8 @@ pub fn search(lookup: &Lookup<'_, '_>) -> Verdict
                     }
                 }
             }
-            due = over_wire(lookup, wire, due);
-            wire = wire_behind(network, wire);
+            due = over_wire(lookup, wire.at, due);
+            wire = wire_behind(network, wire.at);
         }
     }
     Verdict::Pass(count)

@@ -19,7 +19,7 @@ fn supplier(lookup: &Lookup<'_, '_>, id: u16, route: Route) -> Option<u16>
         if same(route, offer(lookup, wire.at)) {
             return Some(u16_at(network.bytes, wire.at + 2));
         }
-        wire = wire_behind(network, wire);
+        wire = wire_behind(network, wire.at);
     }
     None
 }
