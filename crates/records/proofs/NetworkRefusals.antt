@@ -4,6 +4,7 @@
 --     nodes, nodes_.., parts_..       numbers 6 to 8, and on
 --     many, counts, few_nodes         numbers 3 to 5, and on
 --     network                         numbers 1 and 2, and on
+--     same_form                       the form that was told, as its width is written out
 use Rattle.std.proofs.Common.{None, Option, Result, Some}
 use Prim.Native.Nat.{ℕ, ◌+◌, ◌≤◌, ◌<◌}
 use native.Mathlib.Omega.{arith}
@@ -172,3 +173,7 @@ module _ (b : List ℕ) where
     rows_formed f r before after v e = rw (← (named_form b f (sym v ∙ k)).0) e
 
 pub ruleset network = (network_short, network_version, network_counts)
+
+-- a form that is told is told by all that equals it
+pub same_form : (g : Option Form) (f f' : Form) → f' ≡ f → g ≡ Some f → g ≡ Some f'
+same_form g f f' e q = rw e q
