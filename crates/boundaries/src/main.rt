@@ -1,6 +1,7 @@
 // The greatest records that are read and the least that are not, each made in a buffer, checked, and printed with the
 // number and the place of its refusal, or 0 and 0; and joins: the greatest joint networks that are given, with 0 and the record's length, and
-// the least that are refused. What is small is proved in the definitions of `records` instead. A line that cannot be written is left out.
+// the least that are refused. What is small is proved in the definitions of `records` instead. Each piece of a line (a text, a space, a number,
+// a line feed) is written by itself: what cannot be written of one is left out alone, and the pieces behind it are still tried.
 #![tactic(auto)]
 
 ghost use Rattle.std.specs.Prelude.{◌+◌, ◌≤◌};
@@ -82,12 +83,22 @@ fn put_entries(out: &mut [u8; 40000], size: usize, n: usize, total: usize)
     put_numbers(out, 7, size, 1, n);
 }
 
+// Prints a number and a space.
+fn print(rt: &HostRuntime, n: usize) {
+    let _ = print!(rt; "{n}");
+    let _ = print!(rt; " ");
+}
+
 // Prints the end of a line: 0 and a length, or the number and the place of the refusal.
 fn print_end(rt: &HostRuntime, outcome: Result<usize, Refusal>) {
-    let _ = match outcome {
-        Ok(length) => println!(rt; ": 0 {length}"),
-        Err(refusal) => println!(rt; ": {} {}", u8::from(refusal.class), refusal.place),
+    let (number, place) = match outcome {
+        Ok(length) => (0, length),
+        Err(refusal) => (u8::from(refusal.class), refusal.place),
     };
+    let _ = print!(rt; ": ");
+    print(rt, usize::from(number));
+    let _ = print!(rt; "{place}");
+    let _ = println!(rt);
 }
 
 // The same of a check, whose form is not printed: 0 and 0.
@@ -101,7 +112,10 @@ fn try_network(rt: &HostRuntime, nodes: usize, edges: usize, policies: usize)
 {
     let mut out = [0u8; 40000];
     let total = put_network(&mut out, 1, nodes, edges, policies);
-    let _ = print!(rt; "network {nodes} {edges} {policies} ");
+    let _ = print!(rt; "network ");
+    print(rt, nodes);
+    print(rt, edges);
+    print(rt, policies);
     print_check(rt, check_network(&out[0..total]));
 }
 
@@ -112,7 +126,8 @@ fn try_added(rt: &HostRuntime, policy: usize)
     let mut out = [0u8; 40000];
     let total = put_network(&mut out, 1, 1, 0, 64);
     put(&mut out, 21 + 13 * policy, 0);
-    let _ = print!(rt; "0 added by policy {policy} ");
+    let _ = print!(rt; "0 added by policy ");
+    print(rt, policy);
     print_check(rt, check_network(&out[0..total]));
 }
 
@@ -122,7 +137,8 @@ fn try_length(rt: &HostRuntime, length: usize)
 {
     let mut out = [0u8; 40000];
     put_network(&mut out, 1, 512, 4096, 64);
-    let _ = print!(rt; "bytes of the largest network {length} ");
+    let _ = print!(rt; "bytes of the largest network ");
+    print(rt, length);
     print_check(rt, check_network(&out[0..length]));
 }
 
@@ -136,7 +152,13 @@ fn try_join(rt: &HostRuntime, n: usize, e: usize, m: usize, d: usize, room: usiz
     let mut other = [0u8; 40000];
     let behind = put_network(&mut other, 1 + n, m, d, 64);
     let mut out = [0u8; 40000];
-    let _ = print!(rt; "join {n} {e} {m} {d} in {room} ");
+    let _ = print!(rt; "join ");
+    print(rt, n);
+    print(rt, e);
+    print(rt, m);
+    print(rt, d);
+    let _ = print!(rt; "in ");
+    print(rt, room);
     print_end(
         rt,
         join(&one[0..length], &other[0..behind], &mut out[0..room]),
@@ -150,7 +172,8 @@ fn try_list(rt: &HostRuntime, n: usize)
     let mut out = [0u8; 40000];
     let total = 7 + 11 * n;
     put_entries(&mut out, 11, n, total);
-    let _ = print!(rt; "list {n} ");
+    let _ = print!(rt; "list ");
+    print(rt, n);
     print_check(rt, check_list(&out[0..total]));
 }
 
@@ -161,7 +184,8 @@ fn try_sheet(rt: &HostRuntime, n: usize)
     let mut out = [0u8; 40000];
     let total = 7 + 12 * n;
     put_entries(&mut out, 12, n, total);
-    let _ = print!(rt; "sheet {n} ");
+    let _ = print!(rt; "sheet ");
+    print(rt, n);
     print_check(rt, check_sheet(&out[0..total]));
 }
 

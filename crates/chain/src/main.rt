@@ -1,7 +1,8 @@
 // Runs the bench examples of document 01 that are not proved, on its chain of three boxes: what a record or a fragment comes to.
 // Those about the greatest counts are run by `boundaries`.
 //
-// Standard input has the chain's network and the sheet that cuts it 1, 2 | 3. A line that cannot be written is left out.
+// Standard input has the chain's network and the sheet that cuts it 1, 2 | 3. Each piece of a line (a text, a space, a number, a line feed) is
+// written by itself: what cannot be written of one is left out alone, and the pieces behind it are still tried.
 #![tactic(auto)]
 
 ghost use Rattle.std.specs.Prelude.{◌≤◌};
@@ -12,18 +13,23 @@ use streams::read_input;
 
 // Prints a line: a text, a space and a number.
 fn say(rt: &HostRuntime, text: &str, n: usize) {
-    let _ = println!(rt; "{text} {n}");
+    let _ = print!(rt; "{text}");
+    let _ = print!(rt; " ");
+    let _ = print!(rt; "{n}");
+    let _ = println!(rt);
 }
 
 // Cuts a fragment, and prints its length, or the number and the place of the refusal.
 fn say_cut(rt: &HostRuntime, text: &str, network: &[u8], sheet: &[u8], k: u8, out: &mut [u8]) {
-    let _ = match cut(network, sheet, k, out) {
-        Ok(length) => println!(rt; "{text} bytes {length}"),
+    let _ = print!(rt; "{text}");
+    match cut(network, sheet, k, out) {
+        Ok(length) => say(rt, " bytes", length),
         Err(refusal) => {
             let number = u8::from(refusal.class);
-            println!(rt; "{text} refused {number}\n  place {}", refusal.place)
+            say(rt, " refused", usize::from(number));
+            say(rt, "  place", refusal.place);
         }
-    };
+    }
 }
 
 // The same in a buffer of some bytes.
