@@ -2,6 +2,7 @@
 --     classifying           what is kept of one row, as the marks tell it
 --     piece_is              and that it is what the fragment keeps
 --     classifications       the loop over the rows
+--     by_code               a code of a way says that way
 --     pieces_made           what the table of all rows holds
 use Prim.Native.Nat.{ℕ, ◌+◌, ◌≤◌, ◌<◌}
 use native.Mathlib.Omega.{arith}
@@ -205,7 +206,7 @@ module _ (f : Form) (network sheet : List ℕ) (k n : ℕ) (pieces₀ : List ℕ
 pub ruleset classifications = (classifying_start, classifying_count, classifying_table, classifying_index, classifying_kept, classifying_next)
 
 -- a code says the way that it is of
-by_code : (kept : Kept) → kept_by (code_of kept) ≡ kept
+pub by_code : (kept : Kept) → kept_by (code_of kept) ≡ kept
 by_code Nothing = refl
 by_code Stays = refl
 by_code Promised = refl
